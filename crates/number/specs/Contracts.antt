@@ -1,0 +1,27 @@
+-- What each public function promises, cited by its `ensures` and by the theorem that two results it allows coincide.
+use Prim.Native.Nat.{ℕ}
+use mathlib.Core.Bool.{false}
+use mathlib.Core.List.{List}
+use mathlib.Core.Path.{_≡_}
+use lib.ListN.{length}
+use Rattle.number.specs.Reading.{lastGroup, readNumber, tells}
+use Rattle.number.specs.Writing.{numberBytes, writeNumber, bufferAfter, tellsWritten}
+use Rattle.number.specs.declared.NumberRead.{NumberRead}
+use Rattle.number.specs.declared.NumberWritten.{NumberWritten}
+
+-- `read_number` of the slice s at a place
+abbrev pub ReadsNumber : List ℕ → ℕ → NumberRead → Type 0
+ReadsNumber s place r = tells r ≡ readNumber s place
+
+-- `last_group`, of a group after others
+abbrev pub EndsNumber : (g v next : ℕ) → NumberRead → Type 0
+EndsNumber g v next r = tells r ≡ lastGroup false g v next
+
+-- `number_length` of v
+abbrev pub CountsBytes : ℕ → ℕ → Type 0
+CountsBytes v r = r ≡ length (numberBytes v)
+
+-- `write_number` of v into the buffer `before` at a place, which leaves it as `after`
+pub record WritesNumber (v : ℕ) (before : List ℕ) (place : ℕ) (r : NumberWritten) (after : List ℕ) : Type 0 where
+  pub says : tellsWritten r ≡ writeNumber v before place
+  pub bytes : after ≡ bufferAfter v before place

@@ -1,0 +1,140 @@
+-- What is promised of numbers beyond the contracts. Each statement is proved in proofs/ under the name given beside it.
+use Prim.Native.Nat.{ℕ, _+_, _*_, _%_, _^_, _≤_, _<_}
+use mathlib.Core.List.{List, [], _∷_, _++_, map}
+use mathlib.Core.Logic.{_↔_}
+use mathlib.Core.Path.{_≡_}
+use lib.ListN.{length, drop}
+use Rattle.table.specs.Refusals.{cut, overlong, tooLarge, noRoom}
+use Rattle.number.specs.Reading.{Told, value, high, mostLater, readNumber, tells}
+use Rattle.number.specs.Reading as reading
+use Rattle.number.specs.Writing.{ToldWritten, wrote, numberBytes, writeNumber, bufferAfter, tellsWritten}
+use Rattle.number.specs.Writing as writing
+use Rattle.number.specs.Contracts.{ReadsNumber, CountsBytes, WritesNumber}
+use Rattle.number.specs.declared.NumberRead.{NumberRead}
+use Rattle.number.specs.declared.NumberWritten.{NumberWritten}
+
+-- ---- each answer says one thing (proofs/Determined)
+
+-- no two answers of the reader say the same
+abbrev pub ReadTellsOnce : Type 0
+ReadTellsOnce = (r q : NumberRead) → tells r ≡ tells q → r ≡ q
+
+-- no two answers of the writer say the same
+abbrev pub WrittenTellsOnce : Type 0
+WrittenTellsOnce = (r q : NumberWritten) → tellsWritten r ≡ tellsWritten q → r ≡ q
+
+-- two results that `read_number` may give coincide
+abbrev pub ReadDetermined : Type 0
+ReadDetermined = (s : List ℕ) (place : ℕ) (r q : NumberRead) → ReadsNumber s place r → ReadsNumber s place q → r ≡ q
+
+-- two results that `number_length` may give coincide
+abbrev pub LengthDetermined : Type 0
+LengthDetermined = (v r q : ℕ) → CountsBytes v r → CountsBytes v q → r ≡ q
+
+-- two results that `write_number` may give coincide, and so do the buffers that it may leave
+abbrev pub WriteDetermined : Type 0
+WriteDetermined =
+    (v : ℕ) (before : List ℕ) (place : ℕ) (r q : NumberWritten) (after later : List ℕ)
+    → WritesNumber v before place r after → WritesNumber v before place q later → (r ≡ q) × (after ≡ later)
+
+-- ---- reading and writing (proofs/RoundTrip, proofs/Refusals)
+
+-- what is written at a place that has room is read back there, with the place after it
+abbrev pub ReadBack : Type 0
+ReadBack = (v : ℕ) (buffer : List ℕ) (place n : ℕ) → v < 2 ^ 64 → writeNumber v buffer place ≡ wrote n → readNumber (bufferAfter v buffer place) place ≡ value v (place + n)
+
+-- a number read moves the place forward, by ten bytes at most, and stays within the slice
+pub record MovesOn (s : List ℕ) (place next : ℕ) : Type 0 where
+  pub forward : place < next
+  pub few : next ≤ place + (mostLater + 1)
+  pub within : next ≤ length s
+
+abbrev pub ReadMovesOn : Type 0
+ReadMovesOn = (s : List ℕ) (place v next : ℕ) → readNumber s place ≡ value v next → MovesOn s place next
+
+-- ---- the shortest form (proofs/Shortest)
+
+-- the value of groups, lowest first
+abbrev pub valueOf : List ℕ → ℕ
+valueOf [] = 0
+valueOf (g ∷ gs) = g + high * valueOf gs
+
+-- each group is of seven bits
+abbrev pub Sevens : List ℕ → Type 0
+Sevens [] = Unit
+Sevens (g ∷ gs) = (g < high) × Sevens gs
+
+-- a byte without its high bit
+abbrev pub group : ℕ → ℕ
+group b = b % high
+
+-- the groups that are written for a value have that value
+abbrev pub WritesValue : Type 0
+WritesValue = (v : ℕ) → v < 2 ^ 64 → valueOf (map group (numberBytes v)) ≡ v
+
+-- one group or more that have a value are at least as many as are written for it
+abbrev pub Fewest : Type 0
+Fewest = (g : ℕ) (gs : List ℕ) → Sevens (g ∷ gs) → length (numberBytes (valueOf (g ∷ gs))) ≤ length (g ∷ gs)
+
+-- ---- each refusal exactly when (proofs/Refusals)
+
+-- each byte says that another follows
+abbrev pub Followed : List ℕ → Type 0
+Followed [] = Unit
+Followed (b ∷ bs) = (high ≤ b) × Followed bs
+
+-- 7: the bytes to the end are fewer than ten, and each says that another follows
+pub record EndsEarly (bytes : List ℕ) : Type 0 where
+  pub followed : Followed bytes
+  pub few : length bytes ≤ mostLater
+
+abbrev pub CutExactly : Type 0
+CutExactly = (s : List ℕ) (place : ℕ) → readNumber s place ≡ reading.refused cut ↔ EndsEarly (drop place s)
+
+-- 8: one to nine bytes say that another follows, and then comes zero
+pub record EndsInZero (bytes : List ℕ) : Type 0 where
+  pub others : List ℕ
+  pub rest : List ℕ
+  pub whole : bytes ≡ others ++ (0 ∷ rest)
+  pub followed : Followed others
+  pub some : 0 < length others
+  pub few : length others ≤ mostLater
+
+abbrev pub OverlongExactly : Type 0
+OverlongExactly = (s : List ℕ) (place : ℕ) → readNumber s place ≡ reading.refused overlong ↔ EndsInZero (drop place s)
+
+-- 9: nine bytes say that another follows, and the tenth is 2 or more
+pub record TenthTooLarge (bytes : List ℕ) : Type 0 where
+  pub others : List ℕ
+  pub tenth : ℕ
+  pub rest : List ℕ
+  pub whole : bytes ≡ others ++ (tenth ∷ rest)
+  pub followed : Followed others
+  pub nine : length others ≡ mostLater
+  pub large : 1 < tenth
+
+abbrev pub TooLargeExactly : Type 0
+TooLargeExactly = (s : List ℕ) (place : ℕ) → readNumber s place ≡ reading.refused tooLarge ↔ TenthTooLarge (drop place s)
+
+-- 10: the bytes of the value do not fit between the place and the buffer's end
+abbrev pub NoRoomExactly : Type 0
+NoRoomExactly = (v : ℕ) (buffer : List ℕ) (place : ℕ) → writeNumber v buffer place ≡ writing.refused noRoom ↔ (length buffer < place + length (numberBytes v))
+
+-- without room the buffer is as it was
+abbrev pub NoRoomKeeps : Type 0
+NoRoomKeeps = (v : ℕ) (buffer : List ℕ) (place : ℕ) → writeNumber v buffer place ≡ writing.refused noRoom → bufferAfter v buffer place ≡ buffer
+
+-- ---- one form for each value (proofs/OneForm, which nothing else cites: padded numbers will remove it)
+
+-- each is a byte
+abbrev pub Bytes : List ℕ → Type 0
+Bytes [] = Unit
+Bytes (b ∷ bs) = (b < 256) × Bytes bs
+
+-- a number read without fault stands there byte for byte as it is written, before what follows it
+pub record StandsAsWritten (s : List ℕ) (place v next : ℕ) : Type 0 where
+  pub small : v < 2 ^ 64
+  pub whole : drop place s ≡ numberBytes v ++ drop next s
+
+abbrev pub OneForm : Type 0
+OneForm = (s : List ℕ) (place v next : ℕ) → Bytes s → readNumber s place ≡ value v next → StandsAsWritten s place v next

@@ -1,0 +1,107 @@
+// Numbers of a trace: groups of seven bits, lowest first, the high bit set if another follows.
+// Reading takes the one shortest form alone; writing gives it.
+ghost use mathlib.Core.Path.{_≡_};
+ghost use Rattle.number.specs.Contracts.{EndsNumber, ReadsNumber, CountsBytes, WritesNumber};
+
+// A group's weight against the one before it; as a byte, the high bit, set where another follows.
+const HIGH: u64 = 128;
+
+// A number has at most this many groups after its first.
+const MOST_LATER: usize = 9;
+
+// What stands at a place: a value and the place after it, or why there is none.
+pub enum NumberRead {
+    Value { value: u64, next: usize },
+    Cut,
+    Overlong,
+    TooLarge,
+}
+
+// What writing did: how many bytes it wrote, or that there is no room, and nothing was written.
+pub enum NumberWritten {
+    Length(usize),
+    NoRoom,
+}
+
+// A last group of zero after others is not the shortest form.
+fn last_group(group: u64, value: u64, next: usize) -> NumberRead
+    ensures { λ r. ⌜ EndsNumber group value next r ⌝ }
+{
+    if group == 0 {
+        return NumberRead::Overlong;
+    }
+    NumberRead::Value { value, next }
+}
+
+// The number at a place of a slice; any place is taken, and past the end a number is cut.
+pub fn read_number(s: &[u8], place: usize) -> NumberRead
+    ensures { λ r. ⌜ ReadsNumber (now (s .entry)) place r ⌝ }
+{
+    if s.len() <= place {
+        return NumberRead::Cut;
+    }
+    let first = s[place] as u64;
+    let mut next = place + 1;
+    // Most numbers are one byte: it leaves before the loop is set up.
+    if first < HIGH {
+        return NumberRead::Value { value: first, next };
+    }
+    let tenth = place + MOST_LATER;
+    let mut value = first - HIGH;
+    let mut weight = HIGH;
+    while next < tenth {
+        if s.len() <= next {
+            return NumberRead::Cut;
+        }
+        let b = s[next] as u64;
+        next += 1;
+        if b < HIGH {
+            return last_group(b, b * weight + value, next);
+        }
+        value = (b - HIGH) * weight + value;
+        weight = weight * HIGH;
+    }
+    if s.len() <= next {
+        return NumberRead::Cut;
+    }
+    let b = s[next] as u64;
+    if 1 < b {
+        return NumberRead::TooLarge;
+    }
+    last_group(b, b * weight + value, next + 1)
+}
+
+// How many bytes a value takes.
+pub fn number_length(value: u64) -> usize
+    ensures { λ r. ⌜ CountsBytes value r ⌝ }
+{
+    let mut rest = value;
+    let mut length: usize = 1;
+    while HIGH <= rest {
+        rest = rest / HIGH;
+        length += 1;
+    }
+    length
+}
+
+// A value's bytes at a place of a buffer, straight into it once their number is known to fit.
+pub fn write_number(value: u64, buffer: &mut [u8], place: usize) -> NumberWritten
+    ensures { λ r. ⌜ WritesNumber value (now (buffer .entry)) place r (now (buffer .exit)) ⌝ }
+{
+    let length = number_length(value);
+    if buffer.len() < place {
+        return NumberWritten::NoRoom;
+    }
+    if buffer.len() - place < length {
+        return NumberWritten::NoRoom;
+    }
+    let mut rest = value;
+    let mut at = place;
+    while HIGH <= rest {
+        buffer[at] = (HIGH + rest % HIGH) as u8;
+        rest = rest / HIGH;
+        at += 1;
+    }
+    buffer[at] = rest as u8;
+    NumberWritten::Length(length)
+}

@@ -1,0 +1,41 @@
+-- Laws of a choice by a number: the row at a listed number, the default at any other.
+use Prim.Native.Nat.{ℕ, _<_, _≤_}
+use mathlib.Core.Bool.{Bool, true, false}
+use mathlib.Core.List.{List, [], _∷_}
+use mathlib.Core.Path.{_≡_, refl}
+use borrow.Author.Tests.{eq-eqb, ne-eqb, ltb-true, ltb-false}
+use lib.Dec.{ltb}
+use Rattle.table.specs.Choice.{pick, Row, rows, Listed, OthersFrom, Unlisted}
+
+-- the first row of a number is what the table says there: each row before it has another number
+pub listed : {A : Type 0} {n : ℕ} {a : A} {table : List (Row A)} (other : A) → Listed n a table → rows n table other ≡ a
+listed {n = n} other Listed.here = rw (eq-eqb n n refl)
+listed {n = n} other (Listed.later {r = r} ne l) = rw (ne-eqb n (r .key) ne) (listed other l)
+
+-- what was known before a table's rows were passed is known after them
+known-of : {A : Type 0} {known : Type 0} (n : ℕ) (table : List (Row A)) → OthersFrom known n table → known
+known-of n [] o = o
+known-of n (r ∷ rs) o = known-of n rs o .0
+
+others-from : {A : Type 0} (known : Type 0) (n : ℕ) (table : List (Row A)) (other : A) → OthersFrom known n table → rows n table other ≡ other
+others-from known n [] other o = refl
+others-from known n (r ∷ rs) other o =
+    rw (ne-eqb n (r .key) (known-of n rs o .1)) (others-from (known × (n ≡ r .key → ⊥)) n rs other o)
+
+-- at a number that no row has the table says its default: every row is passed over
+pub unlisted : {A : Type 0} (n : ℕ) (table : List (Row A)) (other : A) → Unlisted n table → rows n table other ≡ other
+unlisted n table other o = others-from Unit n table other o
+
+-- what is done with a choice is done with the chosen one
+pub along : {A B : Type 0} (f : A → B) (test : Bool) (a b : A) → f (pick test a b) ≡ pick test (f a) (f b)
+along f true a b = refl
+along f false a b = refl
+
+-- by the value of a test, with the equation at hand
+pub by-test : {A : Type 0} (test : Bool) → (test ≡ true → A) → (test ≡ false → A) → A
+by-test true a b = a refl
+by-test false a b = b refl
+
+-- by the order of two numbers
+pub by-order : {A : Type 0} (m n : ℕ) → (m < n → A) → (n ≤ m → A) → A
+by-order m n a b = by-test (ltb m n) (λ t. a (ltb-true m n t)) (λ t. b (ltb-false m n t))
