@@ -189,7 +189,7 @@ module _ {s : List ℕ} {place next passed weight : ℕ} (p : Passed s place nex
     whole-left = p .whole ∙ ap (λ (n : ℕ). onto passed weight (groups n false next (drop next s))) one
 
     room-left : cap left * (weight * high) ≡ 2 ^ 64
-    room-left = simp (mul-assoc, mul-left-comm, mul-comm) (simp (mul-assoc, mul-left-comm, mul-comm) at (rw one at (p .room)))
+    room-left = simp (mul-left-comm, mul-comm) (simp (mul-assoc, mul-comm) at (rw one at (p .room)))
 
     pub passed-on : next < length s → high ≤ getD s next 0 → getD s next 0 < 256 → Passed s place (next + 1) ((getD s next 0 - high) * weight + passed) (weight * high)
     passed-on n k u =

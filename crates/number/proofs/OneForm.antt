@@ -1,5 +1,5 @@
 -- Whatever is read without fault is what is written for its value. Padded numbers will remove this: nothing else cites it.
-use Prim.Native.Nat.{ℕ, zero, suc, _+_, _-_, _*_, _/_, _%_, _^_, _≤_, _<_}
+use Prim.Native.Nat.{ℕ, zero, suc, _+_, _-_, _*_, _≤_, _<_}
 use mathlib.Core.Bool.{Bool, true, false, true≢false}
 use mathlib.Core.List.{List, [], _∷_, _++_}
 use mathlib.Core.Path.{_≡_, refl, sym, ap, ap₂, subst, _∙_}
@@ -7,14 +7,13 @@ use native.Mathlib.Nat.{add-suc, suc-add}
 use native.Mathlib.Numerals.{add-one}
 use native.Mathlib.Omega.{arith}
 use borrow.Author.Tests.{lt-ltb, le-ltb, eqb-false}
-use lib.Dec.{eqb, ltb}
+use lib.Dec.{eqb}
 use lib.ListN.{length, drop}
 use lib.Seq.{drop-drop, drop-at}
-use Rattle.table.specs.Refusals.{cut, overlong, tooLarge}
 use Rattle.table.proofs.Laws.{by-test, by-order}
 use Rattle.number.specs.Reading.{Told, value, refused, high, mostLater, lastGroup, tenthByte, below, groups, readNumber}
 use Rattle.number.specs.Writing.{bytesOf, numberBytes}
-use Rattle.number.specs.Laws.{Bytes, StandsAsWritten, OneForm}
+use Rattle.number.specs.Laws.{Bytes, OneForm}
 use Rattle.number.proofs.Groups.{cap, cap-two, last}
 
 -- a value and its end, where they are said, are those of the bytes written for it; only a first group is zero

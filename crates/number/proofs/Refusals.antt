@@ -6,15 +6,15 @@ use mathlib.Core.Path.{_≡_, refl, sym, ap, subst, _∙_}
 use native.Mathlib.Nat.{add-suc, suc-add}
 use native.Mathlib.Numerals.{add-one}
 use native.Mathlib.Omega.{arith}
-use borrow.Author.Tests.{lt-ltb, le-ltb, le-leb, lt-leb, leb-true, leb-false, eqb-true}
+use borrow.Author.Tests.{lt-ltb, le-ltb, le-leb, lt-leb, eqb-true}
 use lib.Dec.{eqb}
 use lib.ListN.{length, drop, length-append, length-drop}
 use Rattle.table.specs.Choice.{_⇒_, rows}
-use Rattle.table.specs.Refusals.{cut, overlong, tooLarge, noRoom}
+use Rattle.table.specs.Refusals.{cut, overlong, tooLarge}
 use Rattle.table.proofs.Laws.{by-test, by-order}
 use Rattle.number.specs.Reading.{Told, value, refused, high, mostLater, lastGroup, tenthByte, below, groups, readNumber}
-use Rattle.number.specs.Writing.{numberBytes, fits, writeNumber, bufferAfter}
-use Rattle.number.specs.Laws.{Followed, EndsEarly, EndsInZero, TenthTooLarge, CutExactly, OverlongExactly, TooLargeExactly, NoRoomExactly, NoRoomKeeps, MovesOn, ReadMovesOn}
+use Rattle.number.specs.Writing.{numberBytes}
+use Rattle.number.specs.Laws.{Followed, EndsEarly, EndsInZero, TenthTooLarge, CutExactly, OverlongExactly, TooLargeExactly, NoRoomExactly, NoRoomKeeps, ReadMovesOn}
 use Rattle.number.proofs.RoundTrip.{refused-not-wrote}
 
 -- ---- forwards: what the reader met, for each thing it says

@@ -1,21 +1,20 @@
 -- What is written is read back, by induction over the groups that may follow.
 use Prim.Native.Nat.{ℕ, zero, suc, _+_, _-_, _/_, _%_, _^_, _≤_, _<_}
 use mathlib.Core.Bool.{Bool, true, false, true≢false}
-use mathlib.Core.List.{List, [], _∷_, _++_, append-assoc}
-use mathlib.Core.Path.{_≡_, refl, sym, ap, _∙_}
+use mathlib.Core.List.{List, _++_, append-assoc}
+use mathlib.Core.Path.{_≡_, refl, ap, _∙_}
 use Rattle.table.proofs.Laws.{by-test, by-order}
 use native.Mathlib.Nat.{add-suc, suc-add}
 use native.Mathlib.Numerals.{add-one}
 use native.Mathlib.Omega.{arith}
-use borrow.Author.Tests.{lt-ltb, le-ltb, le-leb, leb-true, ne-eqb}
+use borrow.Author.Tests.{lt-ltb, le-ltb, leb-true, ne-eqb}
 use lib.ListN.{length, take, drop}
 use lib.Seq.{sets, sets-eq, drop-at, length-take-le}
-use lib.Dec.{leb}
 use Rattle.number.specs.Reading.{Told, value, high, mostLater, lastGroup, tenthByte, below, groups, readNumber}
 use Rattle.number.specs.Writing.{wrote, bytesOf, numberBytes, fits, writeNumber, bufferAfter}
 use Rattle.number.specs.Writing as writing
 use Rattle.number.specs.Laws.{ReadBack}
-use Rattle.number.proofs.Groups.{cap, More, more, last}
+use Rattle.number.proofs.Groups.{cap, last}
 
 wrote-is : {m n : ℕ} → wrote m ≡ wrote n → m ≡ n
 wrote-is e = cc

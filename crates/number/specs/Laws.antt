@@ -5,9 +5,9 @@ use mathlib.Core.Logic.{_↔_}
 use mathlib.Core.Path.{_≡_}
 use lib.ListN.{length, drop}
 use Rattle.table.specs.Refusals.{cut, overlong, tooLarge, noRoom}
-use Rattle.number.specs.Reading.{Told, value, high, mostLater, readNumber, tells}
+use Rattle.number.specs.Reading.{value, high, mostLater, readNumber, tells}
 use Rattle.number.specs.Reading as reading
-use Rattle.number.specs.Writing.{ToldWritten, wrote, numberBytes, writeNumber, bufferAfter, tellsWritten}
+use Rattle.number.specs.Writing.{wrote, numberBytes, writeNumber, bufferAfter, tellsWritten}
 use Rattle.number.specs.Writing as writing
 use Rattle.number.specs.Contracts.{ReadsNumber, CountsBytes, WritesNumber}
 use Rattle.number.specs.declared.NumberRead.{NumberRead}

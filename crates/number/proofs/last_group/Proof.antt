@@ -1,5 +1,4 @@
 -- `number::last_group` meets its contract: its test is the definition's, for a group after others.
-use mathlib.Core.Path.{ap}
 use borrow.Author.Tests.{eq-eqb, ne-eqb}
 use Rattle.number.specs.Reading.{lastGroup}
 use Rattle.number.proofs.last_group.Statement.{statement}

@@ -1,6 +1,5 @@
 -- `number::number_length` meets its contract: each turn takes one group off and counts it.
 use native.Mathlib.Omega.{arith}
-use borrow.Author.Needs.{needs}
 use Rattle.number.proofs.Loops.{Counted, counted-start, counted-on, counted-done}
 use Rattle.number.proofs.number_length.Statement.{statement}
 use Rattle.number.proofs.number_length.Tie as tie

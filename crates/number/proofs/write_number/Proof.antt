@@ -1,11 +1,7 @@
 -- `number::write_number` meets its contract: the length found is that of the bytes, and each turn of the loop stores one of them.
-use Prim.Native.Nat.{_+_, _≤_}
 use native.Mathlib.Omega.{arith}
-use mathlib.Core.Path.{ap, sym, _∙_}
 use borrow.Author.Needs.{needs}
-use borrow.Author.Tests.{le-leb, lt-leb}
 use lib.ListN.{length-set}
-use Rattle.number.specs.Writing.{numberBytes}
 use Rattle.number.proofs.Loops.{Writing, writing-start, writing-on, writing-done, no-room, with-room}
 use Rattle.number.proofs.write_number.Statement.{statement}
 use Rattle.number.proofs.write_number.Tie as tie

@@ -1,0 +1,62 @@
+// Runs stored cases and prints what our functions give, a line for each. The cases stand on standard
+// input as numbers in the trace's own form, each case after the number of its kind; the expected
+// output is made by the reference alone.
+mod input;
+mod numbers;
+mod text;
+
+// More cases than any case file has: the run ends with the file.
+const MOST_CASES: u64 = 4294967296;
+
+const READ_NUMBER: u64 = 1;
+
+const WRITE_NUMBER: u64 = 2;
+
+// The case at the start of what is ahead. An unknown kind ends the run: nothing after it could be
+// told apart.
+fn one_case(s: &[u8], out: &mut [u8], n: usize) -> text::Place {
+    let kind = text::take(s, 0);
+    let place = kind.next;
+    let code = kind.value;
+    match code {
+        READ_NUMBER => numbers::read_case(s, code, place, out, n),
+        WRITE_NUMBER => numbers::write_case(s, code, place, out, n),
+        _ => text::Place { next: s.len(), n },
+    }
+}
+
+// Every case of the file; what it answers is how much output is still to be written.
+fn all_cases(window: &mut [u8], out: &mut [u8]) -> usize {
+    let first = io::read_full(0, window);
+    let mut ahead = input::Ahead {
+        from: 0,
+        to: first,
+        ended: false,
+    };
+    let mut n = 0;
+    let mut turns = 0;
+    while turns < MOST_CASES {
+        turns += 1;
+        ahead = input::slide(window, ahead);
+        let from = ahead.from;
+        let to = ahead.to;
+        if to <= from {
+            return n;
+        }
+        let at = one_case(&window[from..to], out, n);
+        n = at.n;
+        let taken = at.next;
+        if to - from < taken {
+            return n;
+        }
+        ahead.from = from + taken;
+    }
+    n
+}
+
+fn main() {
+    let mut window = io::large_buffer();
+    let mut out = io::large_buffer();
+    let n = all_cases(&mut window, &mut out);
+    text::write_out(&out, n);
+}

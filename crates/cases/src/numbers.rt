@@ -1,0 +1,112 @@
+// Cases of the crate `number`: reading at a place of a byte string, writing into a buffer.
+use crate::text::Place;
+use crate::text::end_line;
+use crate::text::fill;
+use crate::text::put_bytes;
+use crate::text::put_next;
+use crate::text::put_number;
+use crate::text::take;
+use crate::text::take_bytes;
+
+// The buffers of the cases are no longer than this.
+const MOST_BUFFER: usize = 64;
+
+// An answer as the paper numbers it: the refusal or 0, and two values that a refusal leaves zero.
+struct Said {
+    refusal: u8,
+    value: u64,
+    next: usize,
+}
+
+fn said_read(read: number::NumberRead) -> Said {
+    match read {
+        number::NumberRead::Value { value, next } => Said {
+            refusal: 0,
+            value,
+            next,
+        },
+        number::NumberRead::Cut => Said {
+            refusal: table::CUT,
+            value: 0,
+            next: 0,
+        },
+        number::NumberRead::Overlong => Said {
+            refusal: table::OVERLONG,
+            value: 0,
+            next: 0,
+        },
+        number::NumberRead::TooLarge => Said {
+            refusal: table::TOO_LARGE,
+            value: 0,
+            next: 0,
+        },
+    }
+}
+
+fn said_written(written: number::NumberWritten) -> Said {
+    match written {
+        number::NumberWritten::Length(next) => Said {
+            refusal: 0,
+            value: 0,
+            next,
+        },
+        number::NumberWritten::NoRoom => Said {
+            refusal: table::NO_ROOM,
+            value: 0,
+            next: 0,
+        },
+    }
+}
+
+// place, bytes: refusal, value, place after it
+pub fn read_case(s: &[u8], kind: u64, place: usize, out: &mut [u8], n: usize) -> Place {
+    let at = take(s, place);
+    let part = take_bytes(s, at.next);
+    let from = part.from;
+    let to = part.to;
+    let r = said_read(number::read_number(&s[from..to], at.value as usize));
+    let mut end = put_number(out, n, kind);
+    end = put_next(out, end, r.refusal as u64);
+    end = put_next(out, end, r.value);
+    end = put_next(out, end, r.next as u64);
+    Place {
+        next: to,
+        n: end_line(out, end),
+    }
+}
+
+fn write_line(
+    buffer: &mut [u8],
+    value: u64,
+    place: usize,
+    kind: u64,
+    out: &mut [u8],
+    n: usize,
+) -> usize {
+    let r = said_written(number::write_number(value, buffer, place));
+    let mut end = put_number(out, n, kind);
+    end = put_next(out, end, r.refusal as u64);
+    end = put_next(out, end, r.next as u64);
+    end = put_bytes(out, end, buffer);
+    end_line(out, end)
+}
+
+// value, place, buffer before: refusal, length, buffer after
+pub fn write_case(s: &[u8], kind: u64, place: usize, out: &mut [u8], n: usize) -> Place {
+    let value = take(s, place);
+    let at = take(s, value.next);
+    let part = take_bytes(s, at.next);
+    let from = part.from;
+    let to = part.to;
+    let mut room = [0u8; MOST_BUFFER];
+    let count = fill(&s[from..to], &mut room);
+    let end = write_line(
+        &mut room[0..count],
+        value.value,
+        at.value as usize,
+        kind,
+        out,
+        n,
+    );
+    Place { next: to, n: end }
+}

@@ -1,0 +1,38 @@
+#ifndef CASE_FILE_H
+#define CASE_FILE_H
+
+#include <stdbool.h>
+#include <stddef.h>
+#include <stdint.h>
+#include <stdio.h>
+
+enum case_kind {
+    KIND_READ_NUMBER = 1,
+    KIND_WRITE_NUMBER = 2
+};
+
+/* The two files stay in step: whoever writes a case also writes the lines expected of it. */
+struct case_file {
+    FILE *cases;
+    FILE *expected;
+    uint64_t random;
+};
+
+bool case_file_open(struct case_file *file, const char *folder);
+
+/* False if anything of either file could not be written. */
+bool case_file_close(struct case_file *file);
+
+void case_number(struct case_file *file, uint64_t number);
+void case_numbers(struct case_file *file, const uint64_t *numbers, size_t count);
+void case_bytes(struct case_file *file, const uint8_t *bytes, size_t length);
+
+void expect_line(struct case_file *file, enum case_kind kind, const uint64_t *numbers, size_t count);
+
+/* At most one of these in an expression: C leaves the order of two open, and the cases must not vary. */
+uint64_t case_random(struct case_file *file);
+uint64_t case_random_below(struct case_file *file, uint64_t limit);
+bool case_random_one_in(struct case_file *file, uint64_t chances);
+uint64_t case_random_of(struct case_file *file, const uint64_t *choices, size_t count);
+
+#endif

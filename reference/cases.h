@@ -1,0 +1,8 @@
+#ifndef CASES_H
+#define CASES_H
+
+#include "case_file.h"
+
+void make_number_cases(struct case_file *file);
+
+#endif

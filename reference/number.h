@@ -1,0 +1,29 @@
+#ifndef NUMBER_H
+#define NUMBER_H
+
+#include <stddef.h>
+#include <stdint.h>
+
+/* 64 bits in groups of seven: nine full groups and one bit. */
+enum { NUMBER_MOST_BYTES = 10 };
+
+/* On a fault value and next are 0. */
+struct number_read {
+    unsigned refusal;
+    uint64_t value;
+    size_t next;
+};
+
+struct number_written {
+    unsigned refusal;
+    size_t length;
+};
+
+struct number_read number_read(const uint8_t *bytes, size_t length, size_t place);
+
+/* How many bytes the one shortest form takes. */
+size_t number_length(uint64_t value);
+
+struct number_written number_write(uint64_t value, uint8_t *buffer, size_t length, size_t place);
+
+#endif
