@@ -1,8 +1,10 @@
 -- Laws of a choice by a number: the row at a listed number, the default at any other.
-use Prim.Native.Nat.{ℕ, _<_, _≤_}
+use Prim.Native.Nat.{ℕ, zero, suc, _<_, _≤_}
 use mathlib.Core.Bool.{Bool, true, false}
 use mathlib.Core.List.{List, [], _∷_}
-use mathlib.Core.Path.{_≡_, refl}
+use mathlib.Core.Path.{_≡_, refl, subst}
+use native.Mathlib.Nat.{le-antisymm, le-of-suc-le-suc}
+use native.Mathlib.Omega.{arith}
 use borrow.Author.Tests.{eq-eqb, ne-eqb, ltb-true, ltb-false}
 use lib.Dec.{ltb}
 use Rattle.table.specs.Choice.{pick, Row, rows, Listed, OthersFrom, Unlisted}
@@ -39,3 +41,12 @@ by-test false a b = b refl
 -- by the order of two numbers
 pub by-order : {A : Type 0} (m n : ℕ) → (m < n → A) → (n ≤ m → A) → A
 by-order m n a b = by-test (ltb m n) (λ t. a (ltb-true m n t)) (λ t. b (ltb-false m n t))
+
+-- a statement at each number below a bound, one by one
+abbrev pub Each : (ℕ → Type 0) → ℕ → Type 0
+Each P zero = Unit
+Each P (suc n) = Each P n × P n
+
+pub each : (P : ℕ → Type 0) (n : ℕ) → Each P n → (k : ℕ) → k < n → P k
+each P zero e k h = absurd (omega arith)
+each P (suc n) e k h = by-order k n (λ l. each P n (e .0) k l) (λ g. subst P (le-antisymm g (le-of-suc-le-suc h)) (e .1))

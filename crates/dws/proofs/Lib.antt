@@ -1,0 +1,3 @@
+pub mod Refusals
+pub mod Lost
+pub mod Acquired
