@@ -4,5 +4,6 @@
 #include "case_file.h"
 
 void make_number_cases(struct case_file *file);
+void make_dws_cases(struct case_file *file);
 
 #endif

@@ -5,13 +5,16 @@
 
 /* Each machine has its own seed, so more cases for one leave those of the others as they are. */
 enum case_seed {
-    SEED_NUMBER = 1001
+    SEED_NUMBER = 1001,
+    SEED_DWS = 2002
 };
 
 static void make_all(struct case_file *file)
 {
     file->random = SEED_NUMBER;
     make_number_cases(file);
+    file->random = SEED_DWS;
+    make_dws_cases(file);
 }
 
 int main(int argc, char **argv)

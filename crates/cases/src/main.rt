@@ -3,6 +3,7 @@
 // output is made by the reference alone.
 mod input;
 mod numbers;
+mod syncs;
 mod text;
 
 // More cases than any case file has: the run ends with the file.
@@ -11,6 +12,8 @@ const MOST_CASES: u64 = 4294967296;
 const READ_NUMBER: u64 = 1;
 
 const WRITE_NUMBER: u64 = 2;
+
+const DWS_WALK: u64 = 3;
 
 // The case at the start of what is ahead. An unknown kind ends the run: nothing after it could be
 // told apart.
@@ -21,6 +24,7 @@ fn one_case(s: &[u8], out: &mut [u8], n: usize) -> text::Place {
     match code {
         READ_NUMBER => numbers::read_case(s, code, place, out, n),
         WRITE_NUMBER => numbers::write_case(s, code, place, out, n),
+        DWS_WALK => syncs::walk_case(s, code, place, out, n),
         _ => text::Place { next: s.len(), n },
     }
 }

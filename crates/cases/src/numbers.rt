@@ -3,8 +3,8 @@ use crate::text::Place;
 use crate::text::end_line;
 use crate::text::fill;
 use crate::text::put_bytes;
-use crate::text::put_next;
-use crate::text::put_number;
+use crate::text::put_line;
+use crate::text::put_numbers;
 use crate::text::take;
 use crate::text::take_bytes;
 
@@ -65,13 +65,10 @@ pub fn read_case(s: &[u8], kind: u64, place: usize, out: &mut [u8], n: usize) ->
     let from = part.from;
     let to = part.to;
     let r = said_read(number::read_number(&s[from..to], at.value as usize));
-    let mut end = put_number(out, n, kind);
-    end = put_next(out, end, r.refusal as u64);
-    end = put_next(out, end, r.value);
-    end = put_next(out, end, r.next as u64);
+    let said = [r.refusal as u64, r.value, r.next as u64];
     Place {
         next: to,
-        n: end_line(out, end),
+        n: put_line(out, n, kind, &said),
     }
 }
 
@@ -84,10 +81,9 @@ fn write_line(
     n: usize,
 ) -> usize {
     let r = said_written(number::write_number(value, buffer, place));
-    let mut end = put_number(out, n, kind);
-    end = put_next(out, end, r.refusal as u64);
-    end = put_next(out, end, r.next as u64);
-    end = put_bytes(out, end, buffer);
+    let said = [r.refusal as u64, r.next as u64];
+    let head = put_numbers(out, n, kind, &said);
+    let end = put_bytes(out, head, buffer);
     end_line(out, end)
 }
 

@@ -76,14 +76,14 @@ fn put_all(out: &mut [u8], n: usize, bytes: &[u8]) -> usize {
 }
 
 // The digits of a number.
-pub fn put_number(out: &mut [u8], n: usize, value: u64) -> usize {
+fn put_number(out: &mut [u8], n: usize, value: u64) -> usize {
     let mut digits = [0u8; 20];
     let count = io::decimal(value, &mut digits);
     put_all(out, n, &digits[..count])
 }
 
 // A further number of a line.
-pub fn put_next(out: &mut [u8], n: usize, value: u64) -> usize {
+fn put_next(out: &mut [u8], n: usize, value: u64) -> usize {
     let after = put(out, n, b' ');
     put_number(out, after, value)
 }
@@ -118,6 +118,23 @@ pub fn fill(bytes: &[u8], buffer: &mut [u8]) -> usize
         i += 1;
     }
     i
+}
+
+// The first number of a line and then the others.
+pub fn put_numbers(out: &mut [u8], n: usize, first: u64, others: &[u64]) -> usize {
+    let mut end = put_number(out, n, first);
+    let mut i = 0;
+    while i < others.len() {
+        end = put_next(out, end, others[i]);
+        i += 1;
+    }
+    end
+}
+
+// A whole line.
+pub fn put_line(out: &mut [u8], n: usize, first: u64, others: &[u64]) -> usize {
+    let end = put_numbers(out, n, first, others);
+    end_line(out, end)
 }
 
 // Each byte as a further number of a line.
