@@ -19,7 +19,8 @@ known-of : {A : Type 0} {known : Type 0} (n : ℕ) (table : List (Row A)) → Ot
 known-of n [] o = o
 known-of n (r ∷ rs) o = known-of n rs o .0
 
-others-from : {A : Type 0} (known : Type 0) (n : ℕ) (table : List (Row A)) (other : A) → OthersFrom known n table → rows n table other ≡ other
+-- the same, where more is known before the table's rows
+pub others-from : {A : Type 0} (known : Type 0) (n : ℕ) (table : List (Row A)) (other : A) → OthersFrom known n table → rows n table other ≡ other
 others-from known n [] other o = refl
 others-from known n (r ∷ rs) other o =
     rw (ne-eqb n (r .key) (known-of n rs o .1)) (others-from (known × (n ≡ r .key → ⊥)) n rs other o)

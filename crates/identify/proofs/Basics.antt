@@ -1,0 +1,26 @@
+-- Small facts on tests and equivalences that every law here goes by.
+use mathlib.Core.Bool.{Bool, true, false, _&&_, _||_, false≢true}
+use mathlib.Core.Logic.{_↔_}
+use mathlib.Core.Path.{_≡_, refl, sym, _∙_}
+
+-- a test has one value
+pub clash : {b : Bool} → b ≡ true → b ≡ false → ⊥
+clash t f = false≢true (sym f ∙ t)
+
+-- two things that both do not hold are equivalent
+pub neither : {A B : Type 0} → (A → ⊥) → (B → ⊥) → A ↔ B
+neither a b = (λ x. absurd (a x), λ y. absurd (b y))
+
+-- two things that both hold are equivalent
+pub together : {A B : Type 0} → A → B → A ↔ B
+together a b = (λ x. b, λ y. a)
+
+-- both parts of a test
+pub parts : (a b : Bool) → a && b ≡ true → (a ≡ true) × (b ≡ true)
+parts true b e = (refl, e)
+parts false b e = absurd (false≢true e)
+
+-- the one part of a test that can hold
+pub left-holds : (a : Bool) → a || false ≡ true → a ≡ true
+left-holds true e = refl
+left-holds false e = absurd (false≢true e)

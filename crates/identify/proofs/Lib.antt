@@ -1,0 +1,10 @@
+pub mod Basics
+pub mod Shapes
+pub mod Moves
+pub mod OneStep
+pub mod Determined
+pub mod Refusals
+pub mod Frames
+pub mod Complete
+pub mod Timer
+pub mod Outcomes

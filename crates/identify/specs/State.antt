@@ -1,0 +1,66 @@
+-- Which states are valid: one test for each rule of the paper.
+use mathlib.Core.Bool.{Bool, _&&_, _||_, not}
+use lib.Dec.{eqb, leb}
+use Rattle.identify.specs.Names.{idle, receiving, completed, none, complete, timedOut, resetReceived, frameDwords, mostTicks}
+use Rattle.identify.specs.declared.Identification.{Identification}
+
+-- one test where something holds, another where it does not
+abbrev pub split : Bool → Bool → Bool → Bool
+split holds there elsewhere = (holds && there) || (not holds && elsewhere)
+
+-- one thing holds only where another does
+abbrev pub only : Bool → Bool → Bool
+only holds needed = not holds || needed
+
+-- inside a frame
+abbrev pub inFrame : Identification → Bool
+inFrame i = eqb (i .receiver) receiving
+
+-- the identify got and the own frame sent
+abbrev pub both : Identification → Bool
+both i = i .got && i .sent
+
+-- the other side's frame is still awaited, and time runs
+abbrev pub awaiting : Identification → Bool
+awaiting i = i .sent && not (i .got) && eqb (i .outcome) none
+
+-- the receiver is one of its four states
+abbrev pub receiverRight : Identification → Bool
+receiverRight i = leb (i .receiver) completed
+
+-- a frame has at most eight dwords, and outside a frame none is counted
+abbrev pub countRight : Identification → Bool
+countRight i = split (inFrame i) (leb (i .count) frameDwords) (eqb (i .count) 0)
+
+-- the type is known to be Identify only in a frame, from its first dword on
+abbrev pub typedRight : Identification → Bool
+typedRight i = only (i .typed) (inFrame i && leb 1 (i .count))
+
+-- an identify is got only where a frame has ended
+abbrev pub gotRight : Identification → Bool
+gotRight i = only (i .got) (eqb (i .receiver) completed)
+
+-- the timer is 1 to 1,000 exactly while a frame is awaited, else 0
+abbrev pub timerRight : Identification → Bool
+timerRight i = split (awaiting i) (leb 1 (i .timer) && leb (i .timer) mostTicks) (eqb (i .timer) 0)
+
+-- the outcome is none or one of the three
+abbrev pub outcomeRight : Identification → Bool
+outcomeRight i = eqb (i .outcome) none || eqb (i .outcome) complete || eqb (i .outcome) timedOut || eqb (i .outcome) resetReceived
+
+-- Complete is the outcome exactly when both are there
+abbrev pub completeRight : Identification → Bool
+completeRight i = split (eqb (i .outcome) complete) (both i) (not (both i))
+
+-- Identify Time-Out needs the own frame sent and none got
+abbrev pub timedOutRight : Identification → Bool
+timedOutRight i = only (eqb (i .outcome) timedOut) (i .sent && not (i .got))
+
+-- Reset Received needs none got, and no frame under way
+abbrev pub resetRight : Identification → Bool
+resetRight i = only (eqb (i .outcome) resetReceived) (not (i .got) && (eqb (i .receiver) idle || eqb (i .receiver) completed))
+
+-- every rule holds
+unfoldable pub validOf : Identification → Bool
+validOf i =
+    receiverRight i && countRight i && typedRight i && gotRight i && timerRight i && outcomeRight i && completeRight i && timedOutRight i && resetRight i

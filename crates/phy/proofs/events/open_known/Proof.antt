@@ -1,0 +1,12 @@
+-- `phy::events::open_known` meets its contract: the ranges are those of a Tx Open.
+use Rattle.phy.specs.Events.{openKnown}
+use Rattle.phy.proofs.events.open_known.Statement.{statement}
+use Rattle.phy.proofs.events.open_known.Tie as tie
+
+pub open-known-spec : {M : Type 1} → statement M
+unfolding openKnown
+open-known-spec =
+    tie.close
+    (tie.spec
+    (λ _ _. tt)
+    (λ c. c .arguments-known .ensures))

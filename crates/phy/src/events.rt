@@ -1,0 +1,179 @@
+// The one table of arguments: how many each event has and each one's range.
+ghost use mathlib.Core.Path.{_≡_};
+ghost use Rattle.phy.specs.Events.{txOpenArguments, openArguments, rejectArguments, rangeAt, argumentsKnown, openKnown, openOf};
+ghost use Rattle.phy.specs.Contracts.{CountsArguments, GivesRange, TellsCodeKnown, TellsKnown};
+use crate::Event;
+use crate::Open;
+use crate::Range;
+use crate::names::FAST_RATE;
+use crate::names::MOST_ADDRESS;
+use crate::names::MOST_BLOCKED;
+use crate::names::MOST_REJECT;
+use crate::names::MOST_TAG;
+use crate::names::MOST_WAIT;
+use crate::names::OPEN_RECEIVED;
+use crate::names::OPEN_REJECT_RECEIVED;
+use crate::names::PHY_DISABLED;
+use crate::names::SLOW_RATE;
+use crate::names::STP;
+use crate::names::TX_OPEN;
+
+// The only value of an argument that the event lacks.
+const NONE: u64 = 0;
+
+pub fn argument_count(code: u64) -> u64
+    ensures { λ r. ⌜ CountsArguments code r ⌝ }
+{
+    match code {
+        TX_OPEN => 6,
+        OPEN_RECEIVED => 2,
+        OPEN_REJECT_RECEIVED => 1,
+        _ => 0,
+    }
+}
+
+fn tx_open_range(i: u64) -> Range
+    ensures { λ r. ⌜ r ≡ rangeAt txOpenArguments i ⌝ }
+{
+    match i {
+        0 => Range {
+            least: 0,
+            most: MOST_ADDRESS,
+        },
+        1 => Range {
+            least: 0,
+            most: STP,
+        },
+        2 => Range {
+            least: SLOW_RATE,
+            most: FAST_RATE,
+        },
+        3 => Range {
+            least: 0,
+            most: MOST_TAG,
+        },
+        4 => Range {
+            least: 0,
+            most: MOST_BLOCKED,
+        },
+        5 => Range {
+            least: 0,
+            most: MOST_WAIT,
+        },
+        _ => Range {
+            least: 0,
+            most: NONE,
+        },
+    }
+}
+
+fn open_range(i: u64) -> Range
+    ensures { λ r. ⌜ r ≡ rangeAt openArguments i ⌝ }
+{
+    match i {
+        0 => Range {
+            least: 0,
+            most: MOST_ADDRESS,
+        },
+        1 => Range {
+            least: 0,
+            most: STP,
+        },
+        _ => Range {
+            least: 0,
+            most: NONE,
+        },
+    }
+}
+
+fn reject_range(i: u64) -> Range
+    ensures { λ r. ⌜ r ≡ rangeAt rejectArguments i ⌝ }
+{
+    match i {
+        0 => Range {
+            least: 0,
+            most: MOST_REJECT,
+        },
+        _ => Range {
+            least: 0,
+            most: NONE,
+        },
+    }
+}
+
+// The range of an event's argument, counted from 0.
+pub fn argument_range(code: u64, i: u64) -> Range
+    ensures { λ r. ⌜ GivesRange code i r ⌝ }
+{
+    match code {
+        TX_OPEN => tx_open_range(i),
+        OPEN_RECEIVED => open_range(i),
+        OPEN_REJECT_RECEIVED => reject_range(i),
+        _ => Range {
+            least: 0,
+            most: NONE,
+        },
+    }
+}
+
+pub fn code_known(code: u64) -> bool
+    ensures { λ r. ⌜ TellsCodeKnown code r ⌝ }
+{
+    (TX_OPEN <= code) & (code <= PHY_DISABLED)
+}
+
+// Whether six arguments are in the ranges of a code; any 64-bit number is an address, and is not tested.
+fn arguments_known(code: u64, a: u64, b: u64, c: u64, d: u64, e: u64, f: u64) -> bool
+    ensures { λ r. ⌜ r ≡ argumentsKnown code a b c d e f ⌝ }
+{
+    match code {
+        TX_OPEN => {
+            (b <= STP)
+                & ((SLOW_RATE <= c) & (c <= FAST_RATE))
+                & (d <= MOST_TAG)
+                & (e <= MOST_BLOCKED)
+                & (f <= MOST_WAIT)
+        }
+        OPEN_RECEIVED => (b <= STP) & (c <= NONE) & (d <= NONE) & (e <= NONE) & (f <= NONE),
+        OPEN_REJECT_RECEIVED => {
+            (a <= MOST_REJECT) & (b <= NONE) & (c <= NONE) & (d <= NONE) & (e <= NONE) & (f <= NONE)
+        }
+        _ => (a <= NONE) & (b <= NONE) & (c <= NONE) & (d <= NONE) & (e <= NONE) & (f <= NONE),
+    }
+}
+
+pub fn known(e: Event) -> bool
+    ensures { λ r. ⌜ TellsKnown e r ⌝ }
+{
+    let code = e.code;
+    code_known(code) & arguments_known(code, e.first, e.second, e.third, e.fourth, e.fifth, e.sixth)
+}
+
+// An Open that is kept has its arguments in the ranges of a Tx Open.
+pub fn open_known(o: Open) -> bool
+    ensures { λ r. ⌜ r ≡ openKnown o ⌝ }
+{
+    arguments_known(
+        TX_OPEN,
+        o.destination,
+        o.protocol,
+        o.rate,
+        o.tag,
+        o.blocked,
+        o.wait,
+    )
+}
+
+// The Open that the arguments of a Tx Open make.
+pub fn open_of(e: Event) -> Open
+    ensures { λ r. ⌜ r ≡ openOf e ⌝ }
+{
+    Open {
+        destination: e.first,
+        protocol: e.second,
+        rate: e.third,
+        tag: e.fourth,
+        blocked: e.fifth,
+        wait: e.sixth,
+    }
+}

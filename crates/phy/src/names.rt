@@ -1,0 +1,138 @@
+// The paper's numbers of the phy.
+
+// Link states: Idle, ArbSel, Selected, Connected, DisconnectWait, BreakWait, Break.
+pub const L0: u64 = 0;
+
+pub const L1: u64 = 1;
+
+pub const L2: u64 = 2;
+
+pub const L3: u64 = 3;
+
+pub const L4: u64 = 4;
+
+pub const L5: u64 = 5;
+
+pub const L6: u64 = 6;
+
+// Port states: Idle, Req_Wait, Connected, Wait_For_Close.
+pub const P1: u64 = 1;
+
+pub const P2: u64 = 2;
+
+pub const P3: u64 = 3;
+
+pub const P4: u64 = 4;
+
+// Protocols.
+pub const SMP: u64 = 0;
+
+pub const STP: u64 = 2;
+
+// Answers to an Open.
+pub const OPENED: u64 = 32;
+
+pub const RETRY: u64 = 48;
+
+pub const NO_DESTINATION: u64 = 49;
+
+pub const PATHWAY_BLOCKED: u64 = 50;
+
+pub const COLLIDED: u64 = 51;
+
+pub const OPENED_BY_DESTINATION: u64 = 52;
+
+pub const OPENED_BY_OTHER: u64 = 53;
+
+pub const BAD_DESTINATION: u64 = 64;
+
+pub const RATE_NOT_SUPPORTED: u64 = 65;
+
+pub const PROTOCOL_NOT_SUPPORTED: u64 = 66;
+
+pub const STP_BUSY: u64 = 67;
+
+pub const WRONG_DESTINATION: u64 = 68;
+
+pub const TERMINATED: u64 = 80;
+
+// Answers that are kept as a reason until the link is idle.
+pub const OPEN_TIMEOUT: u64 = 69;
+
+pub const OPEN_BROKEN: u64 = 70;
+
+pub const PORT_LAYER_REQUEST: u64 = 71;
+
+// Notices: a connection opened, and how one closed.
+pub const CONNECTION_OPENED: u8 = 1;
+
+pub const CLOSED_NORMAL: u8 = 2;
+
+pub const CLOSED_TIMEOUT: u8 = 3;
+
+pub const CLOSED_BREAK_REQUESTED: u8 = 4;
+
+pub const CLOSED_BREAK_RECEIVED: u8 = 5;
+
+pub const CLOSED_TO_IDLE: u8 = 6;
+
+pub const CLOSED_RESET: u8 = 7;
+
+// Primitives and frames sent.
+pub const OPEN: u8 = 1;
+
+pub const OPEN_ACCEPT: u8 = 2;
+
+pub const OPEN_REJECT: u8 = 3;
+
+pub const CLOSE: u8 = 4;
+
+pub const BREAK: u8 = 5;
+
+// Events.
+pub const TX_OPEN: u64 = 1;
+
+pub const CANCEL_OPEN: u64 = 2;
+
+pub const CLOSE_CONNECTION: u64 = 3;
+
+pub const SMP_TRANSMIT_BREAK: u64 = 4;
+
+pub const ACCEPT_OPENS: u64 = 5;
+
+pub const REJECT_OPENS: u64 = 6;
+
+pub const OPEN_RECEIVED: u64 = 7;
+
+pub const OPEN_ACCEPT_RECEIVED: u64 = 8;
+
+pub const OPEN_REJECT_RECEIVED: u64 = 9;
+
+pub const AIP_RECEIVED: u64 = 10;
+
+pub const BREAK_RECEIVED: u64 = 11;
+
+pub const CLOSE_RECEIVED: u64 = 12;
+
+pub const TICK: u64 = 13;
+
+pub const HARD_RESET: u64 = 14;
+
+pub const PHY_DISABLED: u64 = 15;
+
+// Limits.
+pub const FULL_TIMER: u64 = 1000;
+
+pub const MOST_WAIT: u64 = 65535;
+
+pub const MOST_TAG: u64 = 65535;
+
+pub const MOST_BLOCKED: u64 = 255;
+
+pub const SLOW_RATE: u64 = 8;
+
+pub const FAST_RATE: u64 = 9;
+
+pub const MOST_REJECT: u64 = 7;
+
+pub const MOST_ADDRESS: u64 = 18446744073709551615;
