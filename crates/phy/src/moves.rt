@@ -1,8 +1,10 @@
 // What each event does, a function for each, in the paper's order. What no arm lists changes nothing.
+ghost use mathlib.Core.Bool.{true, false};
 ghost use mathlib.Core.Path.{_≡_};
+ghost use Rattle.phy.specs.Names.{L3 as Names·L3, connectionOpened};
 ghost use Prim.Native.Nat.{_-_, _<_};
-ghost use Rattle.phy.specs.State.{withTimer};
-ghost use Rattle.phy.specs.Moves.{reports as Moves·reports, answers as Moves·answers, quiet as Moves·quiet, refused as Moves·refused, toIdle, openByLink, onTxOpen, onCancelOpen, onCloseConnection, onSmpBreak, onAccept, onOpenReceived, onOpenAccept, rejectAnswer, onOpenReject, onAip, onBreak, onClose, longer as Moves·longer, aged as Moves·aged, openedBy, accepted as Moves·accepted, tickRequesting, tickClosing, tickBreaking, tickSelected, onTickAged, onTick, onReset};
+ghost use Rattle.phy.specs.State.{requesting, idle, selected, connected, withTimer};
+ghost use Rattle.phy.specs.Moves.{reports, answers, quiet as Moves·quiet, refused as Moves·refused, toIdle, openByLink, onTxOpen, onCancelOpen, onCloseConnection, onSmpBreak, onAccept, onOpenReceived, onOpenAccept, rejectAnswer, onOpenReject, onAip, onBreak, onClose, longer as Moves·longer, aged as Moves·aged, openedBy, accepted as Moves·accepted, tickRequesting, tickClosing, tickBreaking, tickSelected, onTickAged, onTick, onReset};
 use crate::Event;
 use crate::Open;
 use crate::Phy;
@@ -53,14 +55,74 @@ use crate::names::TERMINATED;
 use crate::names::WRONG_DESTINATION;
 use crate::state::FRESH;
 use crate::state::NO_OPEN;
-use crate::state::connected;
-use crate::state::idle;
-use crate::state::requesting;
-use crate::state::selected;
 
-fn reports(next: Phy, notice: u8, sent: u8) -> Stepped
-    ensures { λ r. ⌜ r ≡ Moves·reports next notice sent ⌝ }
+// A request, or none, with no connection and no OPEN from the far end; a primitive may be sent.
+fn requests(
+    settings: Settings,
+    link: u64,
+    port: u64,
+    timer: u64,
+    request: Open,
+    reason: u64,
+    sent: u8,
+) -> Stepped
+    ensures { λ r. ⌜ r ≡ reports (requesting settings link port timer request reason) 0 sent ⌝ }
 {
+    let mut next = FRESH;
+    next.settings = settings;
+    next.link = link;
+    next.port = port;
+    next.timer = timer;
+    next.request = request;
+    next.reason = reason;
+    Stepped {
+        next,
+        answered: NO_OPEN,
+        answer: 0,
+        notice: 0,
+        sent,
+        refusal: 0,
+    }
+}
+
+// An OPEN from the far end, with a request that waits or none.
+fn selects(settings: Settings, port: u64, request: Open, source: u64, inbound: u64) -> Stepped
+    ensures { λ r. ⌜ r ≡ Moves·quiet (selected settings port request source inbound) ⌝ }
+{
+    let mut next = FRESH;
+    next.settings = settings;
+    next.link = L2;
+    next.port = port;
+    next.request = request;
+    next.source = source;
+    next.inbound = inbound;
+    Stepped {
+        next,
+        answered: NO_OPEN,
+        answer: 0,
+        notice: 0,
+        sent: 0,
+        refusal: 0,
+    }
+}
+
+// A connection, not yet closed by the far end.
+fn connects(
+    settings: Settings,
+    link: u64,
+    timer: u64,
+    connection: u64,
+    notice: u8,
+    sent: u8,
+) -> Stepped
+    ensures { λ r. ⌜ r ≡ reports (connected settings link timer connection false) notice sent ⌝ }
+{
+    let mut next = FRESH;
+    next.settings = settings;
+    next.link = link;
+    next.port = P3;
+    next.timer = timer;
+    next.connection = connection;
     Stepped {
         next,
         answered: NO_OPEN,
@@ -71,14 +133,58 @@ fn reports(next: Phy, notice: u8, sent: u8) -> Stepped
     }
 }
 
-fn answers(next: Phy, answer: u64, request: Open, notice: u8, sent: u8) -> Stepped
-    ensures { λ r. ⌜ r ≡ Moves·answers next answer request notice sent ⌝ }
+// A connection that is the answer to a request.
+fn answers_connected(
+    settings: Settings,
+    connection: u64,
+    answer: u64,
+    request: Open,
+    sent: u8,
+) -> Stepped
+    ensures { λ r. ⌜ r ≡ answers (connected settings Names·L3 0 connection false) answer request connectionOpened sent ⌝ }
 {
+    let mut next = FRESH;
+    next.settings = settings;
+    next.link = L3;
+    next.port = P3;
+    next.connection = connection;
     Stepped {
         next,
         answered: request,
         answer,
+        notice: CONNECTION_OPENED,
+        sent,
+        refusal: 0,
+    }
+}
+
+// Neither request nor connection any more.
+fn rests(settings: Settings, notice: u8, sent: u8) -> Stepped
+    ensures { λ r. ⌜ r ≡ reports (idle settings) notice sent ⌝ }
+{
+    let mut next = FRESH;
+    next.settings = settings;
+    Stepped {
+        next,
+        answered: NO_OPEN,
+        answer: 0,
         notice,
+        sent,
+        refusal: 0,
+    }
+}
+
+// A request is answered, and nothing is left of it.
+fn answers_idle(settings: Settings, answer: u64, request: Open, sent: u8) -> Stepped
+    ensures { λ r. ⌜ r ≡ answers (idle settings) answer request 0 sent ⌝ }
+{
+    let mut next = FRESH;
+    next.settings = settings;
+    Stepped {
+        next,
+        answered: request,
+        answer,
+        notice: 0,
         sent,
         refusal: 0,
     }
@@ -87,7 +193,7 @@ fn answers(next: Phy, answer: u64, request: Open, notice: u8, sent: u8) -> Stepp
 pub fn quiet(p: Phy) -> Stepped
     ensures { λ r. ⌜ r ≡ Moves·quiet p ⌝ }
 {
-    reports(p, 0, 0)
+    refused(p, 0)
 }
 
 pub fn refused(p: Phy, refusal: u8) -> Stepped
@@ -108,13 +214,13 @@ fn to_idle(p: Phy, sent: u8) -> Stepped
     ensures { λ r. ⌜ r ≡ toIdle p sent ⌝ }
 {
     let port = p.port;
+    let settings = p.settings;
     let request = p.request;
-    let next = idle(p.settings);
     match port {
-        P2 => answers(next, COLLIDED, request, 0, sent),
-        P4 => answers(next, p.reason, request, 0, sent),
-        P3 => reports(next, CLOSED_TO_IDLE, sent),
-        _ => reports(next, 0, sent),
+        P2 => answers_idle(settings, COLLIDED, request, sent),
+        P4 => answers_idle(settings, p.reason, request, sent),
+        P3 => rests(settings, CLOSED_TO_IDLE, sent),
+        _ => rests(settings, 0, sent),
     }
 }
 
@@ -124,9 +230,9 @@ fn open_by_link(p: Phy, o: Open) -> Stepped
     let link = p.link;
     let settings = p.settings;
     match link {
-        L0 => reports(requesting(settings, L1, P2, FULL_TIMER, o, 0), 0, OPEN),
-        L2 => quiet(selected(settings, P2, o, p.source, p.inbound)),
-        L6 => quiet(requesting(settings, L6, P2, 0, o, 0)),
+        L0 => requests(settings, L1, P2, FULL_TIMER, o, 0, OPEN),
+        L2 => selects(settings, P2, o, p.source, p.inbound),
+        L6 => requests(settings, L6, P2, 0, o, 0, 0),
         _ => quiet(p),
     }
 }
@@ -143,14 +249,18 @@ pub fn on_tx_open(p: Phy, e: Event) -> Stepped
 pub fn on_cancel_open(p: Phy) -> Stepped
     ensures { λ r. ⌜ r ≡ onCancelOpen p ⌝ }
 {
+    let link = p.link;
+    let settings = p.settings;
+    let request = p.request;
     if p.port == P2 {
-        let link = p.link;
-        let settings = p.settings;
-        let request = p.request;
         return match link {
-            L1 => reports(
-                requesting(settings, L5, P4, FULL_TIMER, request, PORT_LAYER_REQUEST),
-                0,
+            L1 => requests(
+                settings,
+                L5,
+                P4,
+                FULL_TIMER,
+                request,
+                PORT_LAYER_REQUEST,
                 BREAK,
             ),
             _ => quiet(p),
@@ -165,13 +275,9 @@ pub fn on_close_connection(p: Phy) -> Stepped
     let settings = p.settings;
     if p.link == L3 {
         if p.closed {
-            return reports(idle(settings), CLOSED_NORMAL, CLOSE);
+            return rests(settings, CLOSED_NORMAL, CLOSE);
         }
-        return reports(
-            connected(settings, L4, FULL_TIMER, p.connection, false),
-            0,
-            CLOSE,
-        );
+        return connects(settings, L4, FULL_TIMER, p.connection, 0, CLOSE);
     }
     refused(p, table::NOT_CONNECTED)
 }
@@ -183,8 +289,14 @@ pub fn on_smp_break(p: Phy) -> Stepped
     let connection = p.connection;
     if p.link == L3 {
         if connection == SMP {
-            let next = connected(settings, L5, FULL_TIMER, connection, false);
-            return reports(next, CLOSED_BREAK_REQUESTED, BREAK);
+            return connects(
+                settings,
+                L5,
+                FULL_TIMER,
+                connection,
+                CLOSED_BREAK_REQUESTED,
+                BREAK,
+            );
         }
         return refused(p, table::WRONG_PROTOCOL);
     }
@@ -207,8 +319,8 @@ pub fn on_open_received(p: Phy, e: Event) -> Stepped
     let settings = p.settings;
     let request = p.request;
     match link {
-        L0 => quiet(selected(settings, p.port, request, e.first, e.second)),
-        L1 => quiet(selected(settings, p.port, request, e.first, e.second)),
+        L0 => selects(settings, p.port, request, e.first, e.second),
+        L1 => selects(settings, p.port, request, e.first, e.second),
         _ => quiet(p),
     }
 }
@@ -220,13 +332,7 @@ pub fn on_open_accept(p: Phy) -> Stepped
     let settings = p.settings;
     let request = p.request;
     match link {
-        L1 => answers(
-            connected(settings, L3, 0, request.protocol, false),
-            OPENED,
-            request,
-            CONNECTION_OPENED,
-            0,
-        ),
+        L1 => answers_connected(settings, request.protocol, OPENED, request, 0),
         _ => quiet(p),
     }
 }
@@ -254,7 +360,7 @@ pub fn on_open_reject(p: Phy, e: Event) -> Stepped
     let settings = p.settings;
     let request = p.request;
     match link {
-        L1 => answers(idle(settings), reject_answer(e.first), request, 0, 0),
+        L1 => answers_idle(settings, reject_answer(e.first), request, 0),
         L5 => to_idle(p, 0),
         _ => quiet(p),
     }
@@ -280,25 +386,25 @@ pub fn on_break(p: Phy) -> Stepped
     let settings = p.settings;
     let request = p.request;
     match link {
-        L1 => reports(
-            requesting(settings, L6, P4, 0, request, OPEN_BROKEN),
-            0,
-            BREAK,
-        ),
-        L2 => reports(requesting(settings, L6, p.port, 0, request, 0), 0, BREAK),
-        L3 => reports(
-            connected(settings, L6, 0, p.connection, false),
-            CLOSED_BREAK_RECEIVED,
-            BREAK,
-        ),
-        L4 => reports(
-            connected(settings, L6, 0, p.connection, false),
-            CLOSED_BREAK_RECEIVED,
-            BREAK,
-        ),
+        L1 => requests(settings, L6, P4, 0, request, OPEN_BROKEN, BREAK),
+        L2 => requests(settings, L6, p.port, 0, request, 0, BREAK),
+        L3 => connects(settings, L6, 0, p.connection, CLOSED_BREAK_RECEIVED, BREAK),
+        L4 => connects(settings, L6, 0, p.connection, CLOSED_BREAK_RECEIVED, BREAK),
         L5 => to_idle(p, 0),
         _ => quiet(p),
     }
+}
+
+fn closed_by_far_end(settings: Settings, connection: u64) -> Stepped
+    ensures { λ r. ⌜ r ≡ Moves·quiet (connected settings Names·L3 0 connection true) ⌝ }
+{
+    let mut next = FRESH;
+    next.settings = settings;
+    next.link = L3;
+    next.port = P3;
+    next.connection = connection;
+    next.closed = true;
+    quiet(next)
 }
 
 pub fn on_close(p: Phy) -> Stepped
@@ -307,8 +413,8 @@ pub fn on_close(p: Phy) -> Stepped
     let link = p.link;
     let settings = p.settings;
     match link {
-        L3 => quiet(connected(settings, L3, 0, p.connection, true)),
-        L4 => reports(idle(settings), CLOSED_NORMAL, 0),
+        L3 => closed_by_far_end(settings, p.connection),
+        L4 => rests(settings, CLOSED_NORMAL, 0),
         _ => quiet(p),
     }
 }
@@ -361,17 +467,17 @@ fn accepted(p: Phy) -> Stepped
     ensures { λ r. ⌜ r ≡ Moves·accepted p ⌝ }
 {
     let port = p.port;
+    let settings = p.settings;
     let request = p.request;
-    let next = connected(p.settings, L3, 0, p.inbound, false);
     match port {
-        P2 => answers(
-            next,
+        P2 => answers_connected(
+            settings,
+            p.inbound,
             opened_by(p.source, request.destination),
             request,
-            CONNECTION_OPENED,
             OPEN_ACCEPT,
         ),
-        _ => reports(next, CONNECTION_OPENED, OPEN_ACCEPT),
+        _ => connects(settings, L3, 0, p.inbound, CONNECTION_OPENED, OPEN_ACCEPT),
     }
 }
 
@@ -381,11 +487,7 @@ fn tick_requesting(p: Phy) -> Stepped
     let settings = p.settings;
     let request = p.request;
     if p.timer <= 1 {
-        return reports(
-            requesting(settings, L5, P4, FULL_TIMER, request, OPEN_TIMEOUT),
-            0,
-            BREAK,
-        );
+        return requests(settings, L5, P4, FULL_TIMER, request, OPEN_TIMEOUT, BREAK);
     }
     counted(p)
 }
@@ -395,8 +497,11 @@ fn tick_closing(p: Phy) -> Stepped
 {
     let settings = p.settings;
     if p.timer <= 1 {
-        return reports(
-            connected(settings, L5, FULL_TIMER, p.connection, false),
+        return connects(
+            settings,
+            L5,
+            FULL_TIMER,
+            p.connection,
             CLOSED_TIMEOUT,
             BREAK,
         );
@@ -450,10 +555,11 @@ pub fn on_reset(p: Phy) -> Stepped
 {
     let port = p.port;
     let request = p.request;
+    let settings = Settings { accept: false };
     match port {
-        P2 => answers(FRESH, TERMINATED, request, 0, 0),
-        P4 => answers(FRESH, TERMINATED, request, 0, 0),
-        P3 => reports(FRESH, CLOSED_RESET, 0),
-        _ => quiet(FRESH),
+        P2 => answers_idle(settings, TERMINATED, request, 0),
+        P4 => answers_idle(settings, TERMINATED, request, 0),
+        P3 => rests(settings, CLOSED_RESET, 0),
+        _ => rests(settings, 0, 0),
     }
 }

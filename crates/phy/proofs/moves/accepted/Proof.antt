@@ -1,5 +1,5 @@
 -- `phy::moves::accepted` meets its contract: each arm is a row, and the rest is the default.
-use mathlib.Core.Path.{sym}
+use mathlib.Core.Path.{sym, _∙_}
 use Rattle.table.proofs.Laws.{unlisted}
 use Rattle.phy.specs.Moves.{acceptRows, accepted}
 use Rattle.phy.proofs.moves.accepted.Statement.{statement}
@@ -13,6 +13,5 @@ accepted-spec =
     (λ _ _. tt)
     (λ _ _. tt)
     (λ _ _. tt)
-    (λ _ _. tt)
-    (λ c. simp (c .answers .ensures, c .before .opened-by .ensures, c .before .before .before .connected .ensures, c .before .before .match .keys1))
-    (λ c. simp (c .reports .ensures, c .before .before .connected .ensures) (sym (unlisted _ (acceptRows (c .before .before .before .before .args .p)) _ (c .before .match .rest)))))
+    (λ c. simp (c .answers-connected .ensures, c .before .opened-by .ensures, c .before .before .match .keys1))
+    (λ c. c .connects .ensures ∙ sym (unlisted _ (acceptRows (c .before .before .before .before .args .p)) _ (c .before .match .rest))))

@@ -1,5 +1,5 @@
 -- `phy::moves::to_idle` meets its contract: each arm is a row, and the rest is the default.
-use mathlib.Core.Path.{sym}
+use mathlib.Core.Path.{sym, _∙_}
 use Rattle.table.proofs.Laws.{unlisted}
 use Rattle.phy.specs.Moves.{idleRows, toIdle}
 use Rattle.phy.proofs.moves.to_idle.Statement.{statement}
@@ -14,8 +14,7 @@ to-idle-spec =
     (λ _ _. tt)
     (λ _ _. tt)
     (λ _ _. tt)
-    (λ _ _. tt)
-    (λ c. simp (c .answers .ensures, c .before .before .idle .ensures, c .before .match .keys1))
-    (λ c. simp (c .answers2 .ensures, c .before .before .idle .ensures, c .before .match .keys2))
-    (λ c. simp (c .reports .ensures, c .before .before .idle .ensures, c .before .match .keys3))
-    (λ c. simp (c .reports2 .ensures, c .before .before .idle .ensures) (sym (unlisted _ (idleRows (c .before .before .before .before .args .p) (c .before .before .before .before .args .sent)) _ (c .before .match .rest)))))
+    (λ c. simp (c .answers-idle .ensures, c .before .match .keys1))
+    (λ c. simp (c .answers-idle2 .ensures, c .before .match .keys2))
+    (λ c. simp (c .rests .ensures, c .before .match .keys3))
+    (λ c. c .rests2 .ensures ∙ sym (unlisted _ (idleRows (c .before .before .before .before .args .p) (c .before .before .before .before .args .sent)) _ (c .before .match .rest))))

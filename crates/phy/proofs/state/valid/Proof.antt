@@ -1,18 +1,15 @@
--- `phy::state::valid` meets its contract: each test is the definition's.
-use Rattle.phy.specs.State.{validOf}
+-- `phy::state::valid` meets its contract: each test is the definition's; any 64-bit number is a source.
+use native.Mathlib.Omega.{arith}
+use borrow.Author.Tests.{le-leb}
+use Rattle.phy.specs.State.{validInbound, validRequest, validOf}
 use Rattle.phy.proofs.state.valid.Statement.{statement}
 use Rattle.phy.proofs.state.valid.Tie as tie
 
 pub valid-spec : {M : Type 1} → statement M
-unfolding validOf
+unfolding validOf validRequest validInbound
 valid-spec =
     tie.close
     (tie.spec
     (λ _ _. tt)
     (λ _ _. tt)
-    (λ _ _. tt)
-    (λ _ _. tt)
-    (λ _ _. tt)
-    (λ _ _. tt)
-    (λ _ _. tt)
-    (λ c. simp (c .valid-closed .ensures, c .before .valid-connection .ensures, c .before .before .valid-inbound .ensures, c .before .before .before .valid-reason .ensures, c .before .before .before .before .valid-request .ensures, c .before .before .before .before .before .valid-timer .ensures, c .before .before .before .before .before .before .valid-pair .ensures)))
+    (λ c. simp (c .before .is-no-open .ensures, c .before .before .open-known .ensures, le-leb (c .before .before .before .before .args .p .source) 18446744073709551615 (omega arith))))
