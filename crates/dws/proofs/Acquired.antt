@@ -1,9 +1,9 @@
 -- Synchronization is acquired by the third primitive, and not again without a loss or a restart.
-use Prim.Native.Nat.{ℕ, zero, suc, _+_, _-_, _≤_, _<_, min}
+use Prim.Native.Nat.{ℕ, _+_, _-_, _≤_, min}
 use mathlib.Core.Bool.{Bool, true, false, _&&_, _||_, true≢false}
 use mathlib.Core.List.{List, [], _∷_}
-use mathlib.Core.Logic.{_⊎_, ⊎-elim}
-use mathlib.Core.Path.{_≡_, refl, sym, ap, subst, _∙_}
+use mathlib.Core.Logic.{⊎-elim}
+use mathlib.Core.Path.{_≡_, refl, sym, subst}
 use native.Mathlib.Nat.{zero-add}
 use native.Mathlib.Omega.{arith}
 use borrow.Author.Tests.{ne-eqb, eqb-false}
@@ -11,10 +11,10 @@ use lib.Dec.{T, eqb, leb, ltb, eqb→eq}
 use lib.Ieee.Fits.{and-r}
 use Rattle.table.specs.Choice.{pick}
 use Rattle.table.proofs.Laws.{by-test, by-order, Each, each}
-use Rattle.dws.specs.Names.{acquireSync, valid2, syncAcquired, lost3, invalid, lost3Recovered, restart, dataDword, primitive, acquired, lost}
-use Rattle.dws.specs.Step.{freshState, moved, stepOf, nextState, afterInvalid, afterValid, afterPrimitive, reportOf}
-use Rattle.dws.specs.Laws.{Synchronized, run, Valid, AllValid, primitives, acquisitions, Acquires, ThreePrimitives, acquiredStill, LostBetween}
-use Rattle.dws.proofs.Refusals.{by-way, bad-event, taken}
+use Rattle.dws.specs.Names.{acquireSync, valid2, syncAcquired, lost3, invalid, restart, dataDword, primitive, acquired, lost}
+use Rattle.dws.specs.Step.{stepOf, nextState, afterInvalid, afterValid, afterPrimitive, reportOf}
+use Rattle.dws.specs.Laws.{Synchronized, run, AllValid, primitives, acquisitions, ThreePrimitives, acquiredStill, LostBetween}
+use Rattle.dws.proofs.Refusals.{by-way, bad-event}
 use Rattle.dws.proofs.Lost.{synchronized}
 
 -- ---- towards synchronization: the state is the number of primitives, up to three

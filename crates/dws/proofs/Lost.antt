@@ -1,12 +1,12 @@
 -- Lost dwords are counted and cleared as stated: by computing at each synchronized state.
-use Prim.Native.Nat.{ℕ, zero, suc, _+_, _-_, _≤_, _<_}
+use Prim.Native.Nat.{ℕ, zero, suc, _-_, _≤_, _<_}
 use mathlib.Core.List.{List, [], _∷_}
 use mathlib.Core.Logic.{⊎-elim}
-use mathlib.Core.Path.{_≡_, refl, sym, ap, subst, _∙_}
+use mathlib.Core.Path.{_≡_, refl, sym, ap, _∙_}
 use native.Mathlib.Omega.{arith}
 use lib.ListN.{length}
 use Rattle.table.proofs.Laws.{each}
-use Rattle.dws.specs.Names.{syncAcquired, lost3, lost3Recovered, invalid, dataDword, primitive}
+use Rattle.dws.specs.Names.{syncAcquired, lost3, dataDword, primitive}
 use Rattle.dws.specs.Step.{stepOf, nextState, afterInvalid, afterValid, afterPrimitive, reportOf}
 use Rattle.dws.specs.Laws.{lostCount, Synchronized, run, Valid, AllValid, OneMore, InvalidAdds, Loses, FourthLoses, TwoValidClearOne, SixFromLost3}
 

@@ -1,5 +1,4 @@
 pub mod Names
-pub mod Events
 pub mod State
 pub mod Moves
 pub mod Step

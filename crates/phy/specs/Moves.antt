@@ -5,11 +5,12 @@ use mathlib.Core.List.{List, [], _∷_}
 use lib.Dec.{eqb, leb}
 use Rattle.table.specs.Choice.{pick, Row, _⇒_, rows}
 use Rattle.table.specs.Refusals.{busy, nothingPending, notConnected, wrongProtocol}
-use Rattle.phy.specs.Names.{L0, L1, L2, L3, L4, L5, L6, P1, P2, P3, P4, SMP, opened, retry, noDestination, pathwayBlocked, collided, openedByDestination, openedByOther, badDestination, rateNotSupported, protocolNotSupported, stpBusy, wrongDestination, openTimeout, openBroken, portLayerRequest, terminated, connectionOpened, closedNormal, closedTimeout, closedBreakRequested, closedBreakReceived, closedToIdle, closedReset, OPEN, OPEN-ACCEPT, OPEN-REJECT, CLOSE, BREAK, fullTimer, mostWait}
-use Rattle.phy.specs.Events.{openOf}
+use Rattle.event.specs.Names.{SMP, mostWait}
+use Rattle.phy.specs.Names.{L0, L1, L2, L3, L4, L5, L6, P1, P2, P3, P4, opened, retry, noDestination, pathwayBlocked, collided, openedByDestination, openedByOther, badDestination, rateNotSupported, protocolNotSupported, stpBusy, wrongDestination, openTimeout, openBroken, portLayerRequest, terminated, connectionOpened, closedNormal, closedTimeout, closedBreakRequested, closedBreakReceived, closedToIdle, closedReset, OPEN, OPEN-ACCEPT, OPEN-REJECT, CLOSE, BREAK, fullTimer}
+use Rattle.event.specs.Table.{openOf}
 use Rattle.phy.specs.State.{noOpen, requesting, idle, selected, connected, freshPhy, withTimer, withRequest, withSettings}
-use Rattle.phy.specs.declared.Open.{Open}
-use Rattle.phy.specs.declared.Event.{Event}
+use Rattle.event.specs.declared.Open.{Open}
+use Rattle.event.specs.declared.Event.{Event}
 use Rattle.phy.specs.declared.Phy.{Phy}
 use Rattle.phy.specs.declared.Stepped.{Stepped}
 

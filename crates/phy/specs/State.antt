@@ -1,10 +1,11 @@
 -- The phy's record: the shapes that moves go to, and which records are valid.
 use Prim.Native.Nat.{ℕ}
-use mathlib.Core.Bool.{Bool, true, false, _&&_, _||_, not}
+use mathlib.Core.Bool.{Bool, false, _&&_, _||_, not}
 use lib.Dec.{eqb, leb}
-use Rattle.phy.specs.Names.{L0, L1, L2, L3, L4, L5, L6, P1, P2, P3, P4, STP, openTimeout, openBroken, portLayerRequest, fullTimer, mostAddress}
-use Rattle.phy.specs.Events.{openKnown}
-use Rattle.phy.specs.declared.Open.{Open}
+use Rattle.event.specs.Names.{STP, mostAddress}
+use Rattle.phy.specs.Names.{L0, L1, L2, L3, L4, L5, L6, P1, P2, P3, P4, openTimeout, openBroken, portLayerRequest, fullTimer}
+use Rattle.event.specs.Table.{openKnown}
+use Rattle.event.specs.declared.Open.{Open}
 use Rattle.phy.specs.declared.Settings.{Settings}
 use Rattle.phy.specs.declared.Phy.{Phy}
 

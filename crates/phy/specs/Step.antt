@@ -3,11 +3,11 @@ use mathlib.Core.Bool.{true, false}
 use mathlib.Core.List.{List, [], _∷_}
 use Rattle.table.specs.Choice.{pick, Row, _⇒_, rows}
 use Rattle.table.specs.Refusals.{badState, badEvent}
-use Rattle.phy.specs.Names.{txOpen, cancelOpen, closeConnection, smpTransmitBreak, acceptOpens, rejectOpens, openReceived, openAcceptReceived, openRejectReceived, aipReceived, breakReceived, closeReceived, tick, hardReset, phyDisabled}
-use Rattle.phy.specs.Events.{knownOf}
+use Rattle.event.specs.Names.{txOpen, cancelOpen, closeConnection, smpTransmitBreak, acceptOpens, rejectOpens, openReceived, openAcceptReceived, openRejectReceived, aipReceived, breakReceived, closeReceived, tick, hardReset, phyDisabled}
+use Rattle.event.specs.Table.{knownOf}
 use Rattle.phy.specs.State.{validOf}
 use Rattle.phy.specs.Moves.{quiet, refused, onTxOpen, onCancelOpen, onCloseConnection, onSmpBreak, onAccept, onOpenReceived, onOpenAccept, onOpenReject, onAip, onBreak, onClose, onTick, onReset}
-use Rattle.phy.specs.declared.Event.{Event}
+use Rattle.event.specs.declared.Event.{Event}
 use Rattle.phy.specs.declared.Phy.{Phy}
 use Rattle.phy.specs.declared.Stepped.{Stepped}
 

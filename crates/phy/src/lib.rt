@@ -1,59 +1,31 @@
 // One phy: link and port together. A step takes any record and any event, and ends.
-mod events;
 mod moves;
 mod names;
+mod shapes;
 mod state;
+mod ticks;
 
 ghost use mathlib.Core.Path.{_≡_};
 ghost use Rattle.phy.specs.Contracts.{Moves, Steps};
-pub use events::argument_count;
-pub use events::argument_range;
-pub use events::code_known;
-pub use events::known;
-use names::ACCEPT_OPENS;
-use names::AIP_RECEIVED;
-use names::BREAK_RECEIVED;
-use names::CANCEL_OPEN;
-use names::CLOSE_CONNECTION;
-use names::CLOSE_RECEIVED;
-use names::HARD_RESET;
-use names::OPEN_ACCEPT_RECEIVED;
-use names::OPEN_RECEIVED;
-use names::OPEN_REJECT_RECEIVED;
-use names::PHY_DISABLED;
-use names::REJECT_OPENS;
-use names::SMP_TRANSMIT_BREAK;
-use names::TICK;
-use names::TX_OPEN;
+use event::ACCEPT_OPENS;
+use event::AIP_RECEIVED;
+use event::BREAK_RECEIVED;
+use event::CANCEL_OPEN;
+use event::CLOSE_CONNECTION;
+use event::CLOSE_RECEIVED;
+use event::Event;
+use event::HARD_RESET;
+use event::OPEN_ACCEPT_RECEIVED;
+use event::OPEN_RECEIVED;
+use event::OPEN_REJECT_RECEIVED;
+use event::Open;
+use event::PHY_DISABLED;
+use event::REJECT_OPENS;
+use event::SMP_TRANSMIT_BREAK;
+use event::TICK;
+use event::TX_OPEN;
 pub use state::fresh;
 pub use state::valid;
-
-// The six arguments of a Tx Open: a request while it waits, and what its answer carries.
-pub struct Open {
-    pub destination: u64,
-    pub protocol: u64,
-    pub rate: u64,
-    pub tag: u64,
-    pub blocked: u64,
-    pub wait: u64,
-}
-
-// A code and six arguments in the paper's order; those that an event lacks are zero.
-pub struct Event {
-    pub code: u64,
-    pub first: u64,
-    pub second: u64,
-    pub third: u64,
-    pub fourth: u64,
-    pub fifth: u64,
-    pub sixth: u64,
-}
-
-// An argument's range, both ends included.
-pub struct Range {
-    pub least: u64,
-    pub most: u64,
-}
 
 // What outlives every move but a reset.
 pub struct Settings {
@@ -92,7 +64,7 @@ pub fn moved(phy: Phy, event: Event) -> Stepped
 {
     let code = event.code;
     match code {
-        0 => moves::quiet(phy),
+        0 => shapes::quiet(phy),
         TX_OPEN => moves::on_tx_open(phy, event),
         CANCEL_OPEN => moves::on_cancel_open(phy),
         CLOSE_CONNECTION => moves::on_close_connection(phy),
@@ -105,10 +77,10 @@ pub fn moved(phy: Phy, event: Event) -> Stepped
         AIP_RECEIVED => moves::on_aip(phy),
         BREAK_RECEIVED => moves::on_break(phy),
         CLOSE_RECEIVED => moves::on_close(phy),
-        TICK => moves::on_tick(phy),
+        TICK => ticks::on_tick(phy),
         HARD_RESET => moves::on_reset(phy),
         PHY_DISABLED => moves::on_reset(phy),
-        16..=18446744073709551615 => moves::quiet(phy),
+        16..=18446744073709551615 => shapes::quiet(phy),
     }
 }
 
@@ -117,10 +89,10 @@ pub fn step(phy: Phy, event: Event) -> Stepped
     ensures { λ r. ⌜ Steps phy event r ⌝ }
 {
     if valid(phy) {
-        if known(event) {
+        if event::known(event) {
             return moved(phy, event);
         }
-        return moves::refused(phy, table::BAD_EVENT);
+        return shapes::refused(phy, table::BAD_EVENT);
     }
-    moves::refused(phy, table::BAD_STATE)
+    shapes::refused(phy, table::BAD_STATE)
 }

@@ -1,16 +1,10 @@
-// What each event does, a function for each, in the paper's order. What no arm lists changes nothing.
-ghost use mathlib.Core.Bool.{true, false};
+// What each event but a tick does, a function for each, in the paper's order. What no arm lists changes
+// nothing.
 ghost use mathlib.Core.Path.{_≡_};
-ghost use Rattle.phy.specs.Names.{L3 as Names·L3, connectionOpened};
-ghost use Prim.Native.Nat.{_-_, _<_};
-ghost use Rattle.phy.specs.State.{requesting, idle, selected, connected, withTimer};
-ghost use Rattle.phy.specs.Moves.{reports, answers, quiet as Moves·quiet, refused as Moves·refused, toIdle, openByLink, onTxOpen, onCancelOpen, onCloseConnection, onSmpBreak, onAccept, onOpenReceived, onOpenAccept, rejectAnswer, onOpenReject, onAip, onBreak, onClose, longer as Moves·longer, aged as Moves·aged, openedBy, accepted as Moves·accepted, tickRequesting, tickClosing, tickBreaking, tickSelected, onTickAged, onTick, onReset};
-use crate::Event;
-use crate::Open;
+ghost use Rattle.phy.specs.Moves.{toIdle, openByLink, onTxOpen, onCancelOpen, onCloseConnection, onSmpBreak, onAccept, onOpenReceived, onOpenAccept, rejectAnswer, onOpenReject, onAip, onBreak, onClose, onReset};
 use crate::Phy;
 use crate::Settings;
 use crate::Stepped;
-use crate::events::open_of;
 use crate::names::BAD_DESTINATION;
 use crate::names::BREAK;
 use crate::names::CLOSE;
@@ -18,10 +12,8 @@ use crate::names::CLOSED_BREAK_RECEIVED;
 use crate::names::CLOSED_BREAK_REQUESTED;
 use crate::names::CLOSED_NORMAL;
 use crate::names::CLOSED_RESET;
-use crate::names::CLOSED_TIMEOUT;
 use crate::names::CLOSED_TO_IDLE;
 use crate::names::COLLIDED;
-use crate::names::CONNECTION_OPENED;
 use crate::names::FULL_TIMER;
 use crate::names::L0;
 use crate::names::L1;
@@ -30,16 +22,10 @@ use crate::names::L3;
 use crate::names::L4;
 use crate::names::L5;
 use crate::names::L6;
-use crate::names::MOST_WAIT;
 use crate::names::NO_DESTINATION;
 use crate::names::OPEN;
-use crate::names::OPEN_ACCEPT;
 use crate::names::OPEN_BROKEN;
-use crate::names::OPEN_REJECT;
-use crate::names::OPEN_TIMEOUT;
 use crate::names::OPENED;
-use crate::names::OPENED_BY_DESTINATION;
-use crate::names::OPENED_BY_OTHER;
 use crate::names::P1;
 use crate::names::P2;
 use crate::names::P3;
@@ -49,168 +35,25 @@ use crate::names::PORT_LAYER_REQUEST;
 use crate::names::PROTOCOL_NOT_SUPPORTED;
 use crate::names::RATE_NOT_SUPPORTED;
 use crate::names::RETRY;
-use crate::names::SMP;
 use crate::names::STP_BUSY;
 use crate::names::TERMINATED;
 use crate::names::WRONG_DESTINATION;
-use crate::state::FRESH;
-use crate::state::NO_OPEN;
-
-// A request, or none, with no connection and no OPEN from the far end; a primitive may be sent.
-fn requests(
-    settings: Settings,
-    link: u64,
-    port: u64,
-    timer: u64,
-    request: Open,
-    reason: u64,
-    sent: u8,
-) -> Stepped
-    ensures { λ r. ⌜ r ≡ reports (requesting settings link port timer request reason) 0 sent ⌝ }
-{
-    let mut next = FRESH;
-    next.settings = settings;
-    next.link = link;
-    next.port = port;
-    next.timer = timer;
-    next.request = request;
-    next.reason = reason;
-    Stepped {
-        next,
-        answered: NO_OPEN,
-        answer: 0,
-        notice: 0,
-        sent,
-        refusal: 0,
-    }
-}
-
-// An OPEN from the far end, with a request that waits or none.
-fn selects(settings: Settings, port: u64, request: Open, source: u64, inbound: u64) -> Stepped
-    ensures { λ r. ⌜ r ≡ Moves·quiet (selected settings port request source inbound) ⌝ }
-{
-    let mut next = FRESH;
-    next.settings = settings;
-    next.link = L2;
-    next.port = port;
-    next.request = request;
-    next.source = source;
-    next.inbound = inbound;
-    Stepped {
-        next,
-        answered: NO_OPEN,
-        answer: 0,
-        notice: 0,
-        sent: 0,
-        refusal: 0,
-    }
-}
-
-// A connection, not yet closed by the far end.
-fn connects(
-    settings: Settings,
-    link: u64,
-    timer: u64,
-    connection: u64,
-    notice: u8,
-    sent: u8,
-) -> Stepped
-    ensures { λ r. ⌜ r ≡ reports (connected settings link timer connection false) notice sent ⌝ }
-{
-    let mut next = FRESH;
-    next.settings = settings;
-    next.link = link;
-    next.port = P3;
-    next.timer = timer;
-    next.connection = connection;
-    Stepped {
-        next,
-        answered: NO_OPEN,
-        answer: 0,
-        notice,
-        sent,
-        refusal: 0,
-    }
-}
-
-// A connection that is the answer to a request.
-fn answers_connected(
-    settings: Settings,
-    connection: u64,
-    answer: u64,
-    request: Open,
-    sent: u8,
-) -> Stepped
-    ensures { λ r. ⌜ r ≡ answers (connected settings Names·L3 0 connection false) answer request connectionOpened sent ⌝ }
-{
-    let mut next = FRESH;
-    next.settings = settings;
-    next.link = L3;
-    next.port = P3;
-    next.connection = connection;
-    Stepped {
-        next,
-        answered: request,
-        answer,
-        notice: CONNECTION_OPENED,
-        sent,
-        refusal: 0,
-    }
-}
-
-// Neither request nor connection any more.
-fn rests(settings: Settings, notice: u8, sent: u8) -> Stepped
-    ensures { λ r. ⌜ r ≡ reports (idle settings) notice sent ⌝ }
-{
-    let mut next = FRESH;
-    next.settings = settings;
-    Stepped {
-        next,
-        answered: NO_OPEN,
-        answer: 0,
-        notice,
-        sent,
-        refusal: 0,
-    }
-}
-
-// A request is answered, and nothing is left of it.
-fn answers_idle(settings: Settings, answer: u64, request: Open, sent: u8) -> Stepped
-    ensures { λ r. ⌜ r ≡ answers (idle settings) answer request 0 sent ⌝ }
-{
-    let mut next = FRESH;
-    next.settings = settings;
-    Stepped {
-        next,
-        answered: request,
-        answer,
-        notice: 0,
-        sent,
-        refusal: 0,
-    }
-}
-
-pub fn quiet(p: Phy) -> Stepped
-    ensures { λ r. ⌜ r ≡ Moves·quiet p ⌝ }
-{
-    refused(p, 0)
-}
-
-pub fn refused(p: Phy, refusal: u8) -> Stepped
-    ensures { λ r. ⌜ r ≡ Moves·refused p refusal ⌝ }
-{
-    Stepped {
-        next: p,
-        answered: NO_OPEN,
-        answer: 0,
-        notice: 0,
-        sent: 0,
-        refusal,
-    }
-}
+use crate::shapes::answers_connected;
+use crate::shapes::answers_idle;
+use crate::shapes::closed_by_far_end;
+use crate::shapes::connects;
+use crate::shapes::quiet;
+use crate::shapes::refused;
+use crate::shapes::requests;
+use crate::shapes::rests;
+use crate::shapes::selects;
+use event::Event;
+use event::Open;
+use event::SMP;
+use event::open_of;
 
 // Entering L0: a request that waits, or a reason that was kept, is answered; a connection is over.
-fn to_idle(p: Phy, sent: u8) -> Stepped
+pub fn to_idle(p: Phy, sent: u8) -> Stepped
     ensures { λ r. ⌜ r ≡ toIdle p sent ⌝ }
 {
     let port = p.port;
@@ -395,18 +238,6 @@ pub fn on_break(p: Phy) -> Stepped
     }
 }
 
-fn closed_by_far_end(settings: Settings, connection: u64) -> Stepped
-    ensures { λ r. ⌜ r ≡ Moves·quiet (connected settings Names·L3 0 connection true) ⌝ }
-{
-    let mut next = FRESH;
-    next.settings = settings;
-    next.link = L3;
-    next.port = P3;
-    next.connection = connection;
-    next.closed = true;
-    quiet(next)
-}
-
 pub fn on_close(p: Phy) -> Stepped
     ensures { λ r. ⌜ r ≡ onClose p ⌝ }
 {
@@ -417,136 +248,6 @@ pub fn on_close(p: Phy) -> Stepped
         L4 => rests(settings, CLOSED_NORMAL, 0),
         _ => quiet(p),
     }
-}
-
-fn longer(o: Open) -> Open
-    ensures { λ r. ⌜ r ≡ Moves·longer o ⌝ }
-{
-    if MOST_WAIT <= o.wait {
-        return o;
-    }
-    let mut next = o;
-    next.wait = o.wait + 1;
-    next
-}
-
-// Before all else a tick lets a request in P2 wait longer.
-fn aged(p: Phy) -> Phy
-    ensures { λ r. ⌜ r ≡ Moves·aged p ⌝ }
-{
-    if p.port == P2 {
-        let request = longer(p.request);
-        let mut next = p;
-        next.request = request;
-        return next;
-    }
-    p
-}
-
-// A running timer falls by one.
-fn counted(p: Phy) -> Stepped
-    requires { ⌜ 1 < p .timer ⌝ }
-    ensures { λ r. ⌜ r ≡ Moves·quiet (withTimer p (p .timer - 1)) ⌝ }
-{
-    let mut next = p;
-    next.timer = p.timer - 1;
-    quiet(next)
-}
-
-fn opened_by(source: u64, destination: u64) -> u64
-    ensures { λ r. ⌜ r ≡ openedBy source destination ⌝ }
-{
-    if source == destination {
-        return OPENED_BY_DESTINATION;
-    }
-    OPENED_BY_OTHER
-}
-
-// The far end's OPEN is a connection, and our request is answered by who opened it.
-fn accepted(p: Phy) -> Stepped
-    ensures { λ r. ⌜ r ≡ Moves·accepted p ⌝ }
-{
-    let port = p.port;
-    let settings = p.settings;
-    let request = p.request;
-    match port {
-        P2 => answers_connected(
-            settings,
-            p.inbound,
-            opened_by(p.source, request.destination),
-            request,
-            OPEN_ACCEPT,
-        ),
-        _ => connects(settings, L3, 0, p.inbound, CONNECTION_OPENED, OPEN_ACCEPT),
-    }
-}
-
-fn tick_requesting(p: Phy) -> Stepped
-    ensures { λ r. ⌜ r ≡ tickRequesting p ⌝ }
-{
-    let settings = p.settings;
-    let request = p.request;
-    if p.timer <= 1 {
-        return requests(settings, L5, P4, FULL_TIMER, request, OPEN_TIMEOUT, BREAK);
-    }
-    counted(p)
-}
-
-fn tick_closing(p: Phy) -> Stepped
-    ensures { λ r. ⌜ r ≡ tickClosing p ⌝ }
-{
-    let settings = p.settings;
-    if p.timer <= 1 {
-        return connects(
-            settings,
-            L5,
-            FULL_TIMER,
-            p.connection,
-            CLOSED_TIMEOUT,
-            BREAK,
-        );
-    }
-    counted(p)
-}
-
-fn tick_breaking(p: Phy) -> Stepped
-    ensures { λ r. ⌜ r ≡ tickBreaking p ⌝ }
-{
-    if p.timer <= 1 {
-        return to_idle(p, 0);
-    }
-    counted(p)
-}
-
-// The accept flag is looked at when the tick comes, and not when the OPEN came.
-fn tick_selected(p: Phy) -> Stepped
-    ensures { λ r. ⌜ r ≡ tickSelected p ⌝ }
-{
-    let settings = p.settings;
-    if settings.accept {
-        return accepted(p);
-    }
-    to_idle(p, OPEN_REJECT)
-}
-
-fn on_tick_aged(p: Phy) -> Stepped
-    ensures { λ r. ⌜ r ≡ onTickAged p ⌝ }
-{
-    let link = p.link;
-    match link {
-        L1 => tick_requesting(p),
-        L4 => tick_closing(p),
-        L5 => tick_breaking(p),
-        L6 => to_idle(p, 0),
-        L2 => tick_selected(p),
-        _ => quiet(p),
-    }
-}
-
-pub fn on_tick(p: Phy) -> Stepped
-    ensures { λ r. ⌜ r ≡ onTick p ⌝ }
-{
-    on_tick_aged(aged(p))
 }
 
 // A reset sends nothing and clears the accept flag.

@@ -24,11 +24,6 @@ pub const P3: u64 = 3;
 
 pub const P4: u64 = 4;
 
-// Protocols.
-pub const SMP: u64 = 0;
-
-pub const STP: u64 = 2;
-
 // Answers to an Open.
 pub const OPENED: u64 = 32;
 
@@ -89,50 +84,5 @@ pub const CLOSE: u8 = 4;
 
 pub const BREAK: u8 = 5;
 
-// Events.
-pub const TX_OPEN: u64 = 1;
-
-pub const CANCEL_OPEN: u64 = 2;
-
-pub const CLOSE_CONNECTION: u64 = 3;
-
-pub const SMP_TRANSMIT_BREAK: u64 = 4;
-
-pub const ACCEPT_OPENS: u64 = 5;
-
-pub const REJECT_OPENS: u64 = 6;
-
-pub const OPEN_RECEIVED: u64 = 7;
-
-pub const OPEN_ACCEPT_RECEIVED: u64 = 8;
-
-pub const OPEN_REJECT_RECEIVED: u64 = 9;
-
-pub const AIP_RECEIVED: u64 = 10;
-
-pub const BREAK_RECEIVED: u64 = 11;
-
-pub const CLOSE_RECEIVED: u64 = 12;
-
-pub const TICK: u64 = 13;
-
-pub const HARD_RESET: u64 = 14;
-
-pub const PHY_DISABLED: u64 = 15;
-
 // Limits.
 pub const FULL_TIMER: u64 = 1000;
-
-pub const MOST_WAIT: u64 = 65535;
-
-pub const MOST_TAG: u64 = 65535;
-
-pub const MOST_BLOCKED: u64 = 255;
-
-pub const SLOW_RATE: u64 = 8;
-
-pub const FAST_RATE: u64 = 9;
-
-pub const MOST_REJECT: u64 = 7;
-
-pub const MOST_ADDRESS: u64 = 18446744073709551615;

@@ -2,10 +2,8 @@
 ghost use mathlib.Core.Path.{_≡_};
 ghost use Rattle.phy.specs.State.{isNoOpen};
 ghost use Rattle.phy.specs.Contracts.{IsFresh, TellsValid};
-use crate::Open;
 use crate::Phy;
 use crate::Settings;
-use crate::events::open_known;
 use crate::names::FULL_TIMER;
 use crate::names::L0;
 use crate::names::L1;
@@ -21,7 +19,9 @@ use crate::names::P2;
 use crate::names::P3;
 use crate::names::P4;
 use crate::names::PORT_LAYER_REQUEST;
-use crate::names::STP;
+use event::Open;
+use event::STP;
+use event::open_known;
 
 pub const NO_OPEN: Open = Open {
     destination: 0,

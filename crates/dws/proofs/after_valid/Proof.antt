@@ -1,5 +1,5 @@
 -- `dws::after_valid` meets its contract: each arm is a row, and the rest is the default.
-use mathlib.Core.Path.{sym, _∙_}
+use mathlib.Core.Path.{sym}
 use Rattle.table.proofs.Laws.{unlisted}
 use Rattle.dws.specs.Step.{validRows, afterValid}
 use Rattle.dws.proofs.after_valid.Statement.{statement}

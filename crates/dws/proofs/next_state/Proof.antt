@@ -1,5 +1,5 @@
 -- `dws::next_state` meets its contract: each arm is an event's row.
-use mathlib.Core.Path.{sym, _∙_}
+use mathlib.Core.Path.{sym}
 use Rattle.table.proofs.Laws.{unlisted}
 use Rattle.dws.specs.Step.{eventRows, nextState}
 use Rattle.dws.proofs.next_state.Statement.{statement}

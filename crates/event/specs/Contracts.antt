@@ -1,0 +1,32 @@
+-- What each public function promises, cited by its `ensures` and by the theorem that two results it allows coincide.
+use Prim.Native.Nat.{ℕ}
+use mathlib.Core.Bool.{Bool}
+use mathlib.Core.Path.{_≡_}
+use Rattle.event.specs.Table.{argumentCount, argumentRange, codeKnown, knownOf, openKnown, openOf}
+use Rattle.event.specs.declared.Range.{Range}
+use Rattle.event.specs.declared.Event.{Event}
+use Rattle.event.specs.declared.Open.{Open}
+
+-- `known` of an event
+abbrev pub TellsKnown : Event → Bool → Type 0
+TellsKnown e r = r ≡ knownOf e
+
+-- `code_known` of a code
+abbrev pub TellsCodeKnown : ℕ → Bool → Type 0
+TellsCodeKnown code r = r ≡ codeKnown code
+
+-- `argument_count` of a code
+abbrev pub CountsArguments : ℕ → ℕ → Type 0
+CountsArguments code r = r ≡ argumentCount code
+
+-- `argument_range` of a code's argument, counted from 0
+abbrev pub GivesRange : ℕ → ℕ → Range → Type 0
+GivesRange code i r = r ≡ argumentRange code i
+
+-- `open_known` of an Open
+abbrev pub TellsOpenKnown : Open → Bool → Type 0
+TellsOpenKnown o r = r ≡ openKnown o
+
+-- `open_of` an event
+abbrev pub MakesOpen : Event → Open → Type 0
+MakesOpen e r = r ≡ openOf e

@@ -1,0 +1,73 @@
+-- The one table of arguments: how many each event has and each one's range. Whether an event is known is read off it.
+use Prim.Native.Nat.{ℕ}
+use mathlib.Core.Bool.{Bool, _&&_}
+use mathlib.Core.List.{List, [], _∷_}
+use lib.Dec.{leb}
+use lib.ListN.{length, getD}
+use Rattle.table.specs.Choice.{Row, _⇒_, rows}
+use Rattle.event.specs.Names.{STP, txOpen, openReceived, openRejectReceived, phyDisabled, slowRate, fastRate, mostTag, mostBlocked, mostWait, mostReject, mostAddress}
+use Rattle.event.specs.declared.Range.{Range}
+use Rattle.event.specs.declared.Event.{Event}
+use Rattle.event.specs.declared.Open.{Open}
+
+infix 30 _to_
+-- from the least to the most, both included
+abbrev pub _to_ : ℕ → ℕ → Range
+a to b = record { least = a; most = b }
+
+-- Tx Open: destination, protocol, rate, tag, blocked count, wait
+abbrev pub txOpenArguments : List Range
+txOpenArguments = (0 to mostAddress) ∷ (0 to STP) ∷ (slowRate to fastRate) ∷ (0 to mostTag) ∷ (0 to mostBlocked) ∷ (0 to mostWait) ∷ []
+
+-- OPEN received: source, protocol
+abbrev pub openArguments : List Range
+openArguments = (0 to mostAddress) ∷ (0 to STP) ∷ []
+
+-- OPEN_REJECT: reason
+abbrev pub rejectArguments : List Range
+rejectArguments = (0 to mostReject) ∷ []
+
+-- the events that have arguments; the others have none
+abbrev pub argumentRows : List (Row (List Range))
+argumentRows = (txOpen ⇒ txOpenArguments) ∷ (openReceived ⇒ openArguments) ∷ (openRejectReceived ⇒ rejectArguments) ∷ []
+
+abbrev pub argumentsOf : (code : ℕ) → List Range
+argumentsOf code = rows code argumentRows []
+
+-- how many arguments an event has
+unfoldable pub argumentCount : ℕ → ℕ
+argumentCount code = length (argumentsOf code)
+
+-- the range at a place, counted from 0; an argument that the event lacks is zero
+abbrev pub rangeAt : List Range → (i : ℕ) → Range
+rangeAt ranges i = getD ranges i (0 to 0)
+
+-- the range of an event's argument
+unfoldable pub argumentRange : (code i : ℕ) → Range
+argumentRange code i = rangeAt (argumentsOf code) i
+
+-- v lies in a range
+abbrev pub within : Range → ℕ → Bool
+within r v = leb (r .least) v && leb v (r .most)
+
+-- codes 1 to 15
+abbrev pub codeKnown : ℕ → Bool
+codeKnown code = leb txOpen code && leb code phyDisabled
+
+-- the six arguments of an event of a code are in their ranges
+unfoldable pub argumentsKnown : (code a b c d e f : ℕ) → Bool
+argumentsKnown code a b c d e f =
+    within (argumentRange code 0) a && within (argumentRange code 1) b && within (argumentRange code 2) c
+    && within (argumentRange code 3) d && within (argumentRange code 4) e && within (argumentRange code 5) f
+
+-- an event is known: its code is, and its arguments are in their ranges
+unfoldable pub knownOf : Event → Bool
+knownOf e = codeKnown (e .code) && argumentsKnown (e .code) (e .first) (e .second) (e .third) (e .fourth) (e .fifth) (e .sixth)
+
+-- the Open that the arguments of a Tx Open make
+abbrev pub openOf : Event → Open
+openOf e = record { destination = e .first; protocol = e .second; rate = e .third; tag = e .fourth; blocked = e .fifth; wait = e .sixth }
+
+-- an Open that is kept has its arguments in the ranges of a Tx Open
+unfoldable pub openKnown : Open → Bool
+openKnown o = argumentsKnown txOpen (o .destination) (o .protocol) (o .rate) (o .tag) (o .blocked) (o .wait)

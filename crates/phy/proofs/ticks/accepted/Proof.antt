@@ -1,0 +1,17 @@
+-- `phy::ticks::accepted` meets its contract: each arm is a row, and the rest is the default.
+use mathlib.Core.Path.{sym, _∙_}
+use Rattle.table.proofs.Laws.{unlisted}
+use Rattle.phy.specs.Moves.{acceptRows, accepted}
+use Rattle.phy.proofs.ticks.accepted.Statement.{statement}
+use Rattle.phy.proofs.ticks.accepted.Tie as tie
+
+pub accepted-spec : {M : Type 1} → statement M
+unfolding accepted
+accepted-spec =
+    tie.close
+    (tie.spec
+    (λ _ _. tt)
+    (λ _ _. tt)
+    (λ _ _. tt)
+    (λ c. simp (c .answers-connected .ensures, c .before .opened-by .ensures, c .before .before .match .keys1))
+    (λ c. c .connects .ensures ∙ sym (unlisted _ (acceptRows (c .before .before .before .before .args .p)) _ (c .before .match .rest))))
