@@ -51,3 +51,8 @@ Each P (suc n) = Each P n × P n
 pub each : (P : ℕ → Type 0) (n : ℕ) → Each P n → (k : ℕ) → k < n → P k
 each P zero e k h = absurd (omega arith)
 each P (suc n) e k h = by-order k n (λ l. each P n (e .0) k l) (λ g. subst P (le-antisymm g (le-of-suc-le-suc h)) (e .1))
+
+-- what holds of both choices, each where its test says so, holds of the choice
+pub by-pick : {A : Type 0} (P : A → Type 0) (test : Bool) {a b : A} → (test ≡ true → P a) → (test ≡ false → P b) → P (pick test a b)
+by-pick P true f g = f refl
+by-pick P false f g = g refl

@@ -1,0 +1,444 @@
+-- The one-step law for each event: a line for each of the twelve shapes, in the order P1, P2, P3, P4.
+use Prim.Native.Nat.{ℕ, _+_, _-_, _*_, _≤_, _<_}
+use mathlib.Core.Bool.{Bool, true, false, _&&_, _||_, not, false≢true}
+use mathlib.Core.List.{[], _∷_}
+use mathlib.Core.Path.{_≡_, refl, sym, ap, subst, _∙_}
+use native.Mathlib.Omega.{arith}
+use borrow.Author.Tests.{eqb-true, leb-true, leb-false, le-leb}
+use lib.Dec.{eqb, leb, leb·zero}
+use Rattle.table.specs.Choice.{pick, rows}
+use Rattle.table.proofs.Laws.{by-test, by-pick, each}
+use Rattle.event.specs.Names.{STP, SMP, txOpen, tick, phyDisabled, mostAddress, mostWait, mostReject}
+use Rattle.event.specs.Table.{argumentRange, argumentsKnown, codeKnown, knownOf, openOf, openKnown}
+use Rattle.event.specs.declared.Event.{Event}
+use Rattle.event.specs.declared.Open.{Open}
+use Rattle.phy.specs.Names.{fullTimer, openTimeout, openBroken, portLayerRequest}
+use Rattle.phy.specs.State.{noOpen, idle, requesting, selected, connected, freshPhy, isNoOpen, validPair, validTimer, validRequest, validReason, validInbound, validConnection, validClosed, validOf, withTimer, withRequest}
+use Rattle.phy.specs.Moves.{refused, toIdle, openByLink, onTxOpen, onCancelOpen, onCloseConnection, onSmpBreak, onAccept, onOpenReceived, onOpenAccept, rejectAnswer, onOpenReject, onAip, onBreak, onClose, longer, aged, tickRequesting, tickClosing, tickBreaking, openedBy, accepted, tickSelected, onTickAged, onTick, onReset}
+use Rattle.phy.specs.Step.{moveOf}
+use Rattle.phy.specs.declared.Settings.{Settings}
+use Rattle.phy.specs.declared.Phy.{Phy}
+use Rattle.phy.specs.declared.Stepped.{Stepped}
+use Rattle.laws.specs.Waiting.{waits, accepts, isAnswer, heard, ticksOf, aipsOf, left}
+use Rattle.laws.proofs.Tests.{both, either, at-number, in-range, in-use}
+use Rattle.laws.proofs.Shapes.{Fields, phyOf, Facts, by-shape}
+use Rattle.laws.proofs.OneStep.{Nothing, Taken, Kept, Answered, setsFlag, Stepping, valid-of, still, protocol-known, longer-known, timed, at-least-one, timed-down}
+
+-- an Open whose arguments are all zero is none
+is-no-open : (o : Open) → isNoOpen o ≡ true → o ≡ noOpen
+is-no-open o h =
+    let f = both (eqb (o .destination) 0 && eqb (o .protocol) 0 && eqb (o .rate) 0 && eqb (o .tag) 0 && eqb (o .blocked) 0) (eqb (o .wait) 0) h in
+    let e = both (eqb (o .destination) 0 && eqb (o .protocol) 0 && eqb (o .rate) 0 && eqb (o .tag) 0) (eqb (o .blocked) 0) (f .0) in
+    let d = both (eqb (o .destination) 0 && eqb (o .protocol) 0 && eqb (o .rate) 0) (eqb (o .tag) 0) (e .0) in
+    let c = both (eqb (o .destination) 0 && eqb (o .protocol) 0) (eqb (o .rate) 0) (d .0) in
+    let b = both (eqb (o .destination) 0) (eqb (o .protocol) 0) (c .0) in
+    λ i. record { destination = eqb-true (o .destination) 0 (b .0) i; protocol = eqb-true (o .protocol) 0 (b .1) i; rate = eqb-true (o .rate) 0 (c .1) i; tag = eqb-true (o .tag) 0 (d .1) i; blocked = eqb-true (o .blocked) 0 (e .1) i; wait = eqb-true (o .wait) 0 (f .1) i }
+
+-- ---- what validity says of the fields in use
+
+asked : {link : ℕ} {f : Fields} → Facts link 2 f → openKnown (f .request) ≡ true
+unfolding validRequest
+asked {f = f} h = in-range (openKnown (f .request)) (isNoOpen (f .request)) (h .request)
+
+asked4 : {link : ℕ} {f : Fields} → Facts link 4 f → openKnown (f .request) ≡ true
+unfolding validRequest
+asked4 {f = f} h = in-range (openKnown (f .request)) (isNoOpen (f .request)) (h .request)
+
+runs1 : {port : ℕ} {f : Fields} → Facts 1 port f → timed (f .timer) ≡ true
+runs1 {f = f} h = in-range (timed (f .timer)) (eqb (f .timer) 0) (h .timer)
+
+runs4 : {port : ℕ} {f : Fields} → Facts 4 port f → timed (f .timer) ≡ true
+runs4 {f = f} h = in-range (timed (f .timer)) (eqb (f .timer) 0) (h .timer)
+
+runs5 : {port : ℕ} {f : Fields} → Facts 5 port f → timed (f .timer) ≡ true
+runs5 {f = f} h = in-range (timed (f .timer)) (eqb (f .timer) 0) (h .timer)
+
+inbounds : {port : ℕ} {f : Fields} → Facts 2 port f → leb (f .inbound) STP ≡ true
+unfolding validInbound
+inbounds {f = f} h =
+    both (leb (f .source) mostAddress) (leb (f .inbound) STP) (in-range (leb (f .source) mostAddress && leb (f .inbound) STP) (eqb (f .source) 0 && eqb (f .inbound) 0) (h .inbound)) .1
+
+sources : {port : ℕ} {f : Fields} → Facts 2 port f → leb (f .source) mostAddress ≡ true
+unfolding validInbound
+sources {f = f} h =
+    both (leb (f .source) mostAddress) (leb (f .inbound) STP) (in-range (leb (f .source) mostAddress && leb (f .inbound) STP) (eqb (f .source) 0 && eqb (f .inbound) 0) (h .inbound)) .0
+
+linked : {link : ℕ} {f : Fields} → Facts link 3 f → leb (f .connection) STP ≡ true
+linked {f = f} h = in-range (leb (f .connection) STP) (eqb (f .connection) 0) (h .connection)
+
+-- in P1 no request is kept
+no-request : {link : ℕ} {f : Fields} → Facts link 1 f → f .request ≡ noOpen
+unfolding validRequest
+no-request {f = f} v = is-no-open (f .request) (v .request)
+
+-- ---- the shapes that moves lead to are valid
+
+idle-valid : (s : Settings) → validOf (idle s) ≡ true
+unfolding validOf validRequest validInbound
+idle-valid s = refl
+
+requesting-valid : (s : Settings) (t : ℕ) (o : Open) → timed t ≡ true → openKnown o ≡ true → validOf (requesting s 1 2 t o 0) ≡ true
+unfolding validOf validRequest validInbound
+requesting-valid s t o ht ho = rw (ht, ho)
+
+waiting-valid : (s : Settings) (o : Open) → openKnown o ≡ true → validOf (requesting s 6 2 0 o 0) ≡ true
+unfolding validOf validRequest validInbound
+waiting-valid s o ho = rw ho
+
+breaking-valid : (s : Settings) → validOf (requesting s 6 1 0 noOpen 0) ≡ true
+unfolding validOf validRequest validInbound
+breaking-valid s = refl
+
+broken-valid : (s : Settings) (o : Open) → openKnown o ≡ true → validOf (requesting s 6 4 0 o openBroken) ≡ true
+unfolding validOf validRequest validInbound
+broken-valid s o ho = rw ho
+
+giving-up-valid : (s : Settings) (o : Open) (reason : ℕ) → openKnown o ≡ true → eqb reason openTimeout || eqb reason portLayerRequest ≡ true → validOf (requesting s 5 4 fullTimer o reason) ≡ true
+unfolding validOf validRequest validInbound
+giving-up-valid s o reason ho hr = rw (ho, hr)
+
+selected-valid : (s : Settings) (source inbound : ℕ) → leb source mostAddress ≡ true → leb inbound STP ≡ true → validOf (selected s 1 noOpen source inbound) ≡ true
+unfolding validOf validRequest validInbound
+selected-valid s source inbound hs hi = rw (hs, hi)
+
+selected-waiting-valid : (s : Settings) (o : Open) (source inbound : ℕ) → openKnown o ≡ true → leb source mostAddress ≡ true → leb inbound STP ≡ true → validOf (selected s 2 o source inbound) ≡ true
+unfolding validOf validRequest validInbound
+selected-waiting-valid s o source inbound ho hs hi = rw (ho, hs, hi)
+
+connected-valid : (s : Settings) (c : ℕ) (closed : Bool) → leb c STP ≡ true → validOf (connected s 3 0 c closed) ≡ true
+unfolding validOf validRequest validInbound
+connected-valid s c closed hc = rw hc
+
+closing-valid : (s : Settings) (c : ℕ) → leb c STP ≡ true → validOf (connected s 4 fullTimer c false) ≡ true
+unfolding validOf validRequest validInbound
+closing-valid s c hc = rw hc
+
+cutting-valid : (s : Settings) (c : ℕ) → leb c STP ≡ true → validOf (connected s 5 fullTimer c false) ≡ true
+unfolding validOf validRequest validInbound
+cutting-valid s c hc = rw hc
+
+cut-valid : (s : Settings) (c : ℕ) → leb c STP ≡ true → validOf (connected s 6 0 c false) ≡ true
+unfolding validOf validRequest validInbound
+cut-valid s c hc = rw hc
+
+-- the same phy with its timer one less
+counted-valid : (link port : ℕ) (f : Fields) (t : ℕ) → validPair link port ≡ true → validTimer link t ≡ true → Facts link port f → validOf (withTimer (phyOf link port f) t) ≡ true
+counted-valid link port f t v ht h =
+    valid-of link port
+    (record { timer = t; request = f .request; reason = f .reason; source = f .source; inbound = f .inbound; connection = f .connection; closed = f .closed; settings = f .settings })
+    v (record { timer = ht; request = h .request; reason = h .reason; inbound = h .inbound; connection = h .connection; closed = h .closed })
+
+-- an event of a code
+abbrev pub event : (code a b c d g h : ℕ) → Event
+event code a b c d g h = record { code = code; first = a; second = b; third = c; fourth = d; fifth = g; sixth = h }
+
+-- ---- what a known event says of its arguments
+
+open-known : (a b c d g h : ℕ) → knownOf (event 1 a b c d g h) ≡ true → openKnown (openOf (event 1 a b c d g h)) ≡ true
+unfolding knownOf openKnown
+open-known a b c d g h k = k
+
+source-known : (a b c d g h : ℕ) → knownOf (event 7 a b c d g h) ≡ true → (leb a mostAddress ≡ true) × (leb b STP ≡ true)
+unfolding knownOf argumentsKnown argumentRange
+source-known a b c d g h k =
+    let none : ℕ → Bool = λ n. leb 0 n && leb n 0 in
+    let both-fit : Bool = (leb 0 a && leb a mostAddress) && (leb 0 b && leb b STP) in
+    let u = both (both-fit && none c && none d && none g) (none h) k in
+    let v = both (both-fit && none c && none d) (none g) (u .0) in
+    let w = both (both-fit && none c) (none d) (v .0) in
+    let x = both both-fit (none c) (w .0) in
+    let y = both (leb 0 a && leb a mostAddress) (leb 0 b && leb b STP) (x .0) in
+    (both (leb 0 a) (leb a mostAddress) (y .0) .1, both (leb 0 b) (leb b STP) (y .1) .1)
+
+reason-known : (a b c d g h : ℕ) → knownOf (event 9 a b c d g h) ≡ true → a ≤ mostReject
+unfolding knownOf argumentsKnown argumentRange
+reason-known a b c d g h k =
+    let none : ℕ → Bool = λ n. leb 0 n && leb n 0 in
+    let one : Bool = leb 0 a && leb a mostReject in
+    let u = both (one && none b && none c && none d && none g) (none h) k in
+    let v = both (one && none b && none c && none d) (none g) (u .0) in
+    let w = both (one && none b && none c) (none d) (v .0) in
+    let x = both (one && none b) (none c) (w .0) in
+    let y = both one (none b) (x .0) in
+    leb-true a mostReject (both (leb 0 a) (leb a mostReject) (y .0) .1)
+
+-- ---- 1, Tx Open: in P1 it is taken, in any other port state refused
+on-tx-open : (a b c d g h : ℕ) → knownOf (event 1 a b c d g h) ≡ true → (p : Phy) → validOf p ≡ true → Stepping p (event 1 a b c d g h) (onTxOpen p (event 1 a b c d g h))
+unfolding onTxOpen openByLink left
+on-tx-open a b c d g h k =
+    let e = event 1 a b c d g h in
+    let o : openKnown (openOf e) ≡ true = open-known a b c d g h k in
+    let q = still e 3 refl refl (omega arith) in
+    by-shape (λ p. Stepping p e (onTxOpen p e))
+    (λ f v. record { valid = requesting-valid (f .settings) fullTimer (openOf e) refl o; tally = record { silent = refl; none = refl; opens = refl; request = refl; soon = omega arith }; flag = refl; reports = refl })
+    (λ f v. record { valid = selected-waiting-valid (f .settings) (openOf e) (f .source) (f .inbound) o (sources v) (inbounds v); tally = record { silent = refl; none = refl; opens = refl; request = refl; soon = omega arith }; flag = refl; reports = refl })
+    (λ f v. record { valid = waiting-valid (f .settings) (openOf e) o; tally = record { silent = refl; none = refl; opens = refl; request = refl; soon = omega arith }; flag = refl; reports = refl })
+    (q 1 2 refl) (q 2 2 refl) (q 6 2 refl) (q 3 3 refl) (q 4 3 refl) (q 5 3 refl) (q 6 3 refl) (q 5 4 refl) (q 6 4 refl)
+
+-- ---- 2, Cancel Open: in L1 the request is given up, and waits for the link to be idle
+on-cancel-open : (a b c d g h : ℕ) (p : Phy) → validOf p ≡ true → Stepping p (event 2 a b c d g h) (onCancelOpen p)
+unfolding onCancelOpen heard left
+on-cancel-open a b c d g h =
+    let e = event 2 a b c d g h in
+    let q = still e 0 refl refl (omega arith) in
+    let n = still e 4 refl refl (omega arith) in
+    by-shape (λ p. Stepping p e (onCancelOpen p))
+    (n 0 1 refl) (n 2 1 refl) (n 6 1 refl)
+    (λ f v. record { valid = giving-up-valid (f .settings) (f .request) portLayerRequest (asked v) refl; tally = record { silent = refl; none = refl; opens = refl; request = refl; falls = omega arith }; flag = refl; reports = refl })
+    (q 2 2 refl) (q 6 2 refl) (n 3 3 refl) (n 4 3 refl) (n 5 3 refl) (n 6 3 refl) (n 5 4 refl) (n 6 4 refl)
+
+-- ---- 3, Close Connection
+on-close-connection : (a b c d g h : ℕ) (p : Phy) → validOf p ≡ true → Stepping p (event 3 a b c d g h) (onCloseConnection p)
+unfolding onCloseConnection
+on-close-connection a b c d g h =
+    let e = event 3 a b c d g h in
+    let n = still e 5 refl refl (omega arith) in
+    by-shape (λ p. Stepping p e (onCloseConnection p))
+    (n 0 1 refl) (n 2 1 refl) (n 6 1 refl) (n 1 2 refl) (n 2 2 refl) (n 6 2 refl)
+    (λ f v. by-pick (Stepping (phyOf 3 3 f) e) (f .closed)
+        (λ t. record { valid = idle-valid (f .settings); tally = record { silent = refl; none = refl; opens = refl }; flag = refl; reports = refl })
+        (λ t. record { valid = closing-valid (f .settings) (f .connection) (linked v); tally = record { silent = refl; none = refl; opens = refl }; flag = refl; reports = refl }))
+    (n 4 3 refl) (n 5 3 refl) (n 6 3 refl) (n 5 4 refl) (n 6 4 refl)
+
+-- ---- 4, SMP Transmit Break
+on-smp-break : (a b c d g h : ℕ) (p : Phy) → validOf p ≡ true → Stepping p (event 4 a b c d g h) (onSmpBreak p)
+unfolding onSmpBreak
+on-smp-break a b c d g h =
+    let e = event 4 a b c d g h in
+    let n = still e 5 refl refl (omega arith) in
+    by-shape (λ p. Stepping p e (onSmpBreak p))
+    (n 0 1 refl) (n 2 1 refl) (n 6 1 refl) (n 1 2 refl) (n 2 2 refl) (n 6 2 refl)
+    (λ f v. by-pick (Stepping (phyOf 3 3 f) e) (eqb (f .connection) SMP)
+        (λ t. record { valid = cutting-valid (f .settings) (f .connection) (linked v); tally = record { silent = refl; none = refl; opens = refl }; flag = refl; reports = refl })
+        (λ t. still e 6 refl refl (omega arith) 3 3 refl f v))
+    (n 4 3 refl) (n 5 3 refl) (n 6 3 refl) (n 5 4 refl) (n 6 4 refl)
+
+-- ---- 7, OPEN received: in L0 and L1
+on-open-received : (a b c d g h : ℕ) → knownOf (event 7 a b c d g h) ≡ true → (p : Phy) → validOf p ≡ true → Stepping p (event 7 a b c d g h) (onOpenReceived p (event 7 a b c d g h))
+unfolding onOpenReceived heard left
+on-open-received a b c d g h k =
+    let e = event 7 a b c d g h in
+    let w = source-known a b c d g h k in
+    let q = still e 0 refl refl (omega arith) in
+    by-shape (λ p. Stepping p e (onOpenReceived p e))
+    (λ f v. record { valid = rw (no-request v) (selected-valid (f .settings) a b (w .0) (w .1)); tally = record { silent = refl; none = refl; opens = refl }; flag = refl; reports = refl })
+    (q 2 1 refl) (q 6 1 refl)
+    (λ f v. record { valid = selected-waiting-valid (f .settings) (f .request) a b (asked v) (w .0) (w .1); tally = record { silent = refl; none = refl; opens = refl; request = refl; falls = omega arith }; flag = refl; reports = refl })
+    (q 2 2 refl) (q 6 2 refl) (q 3 3 refl) (q 4 3 refl) (q 5 3 refl) (q 6 3 refl) (q 5 4 refl) (q 6 4 refl)
+
+-- ---- 8, OPEN_ACCEPT: in L1 the request is answered
+on-open-accept : (a b c d g h : ℕ) (p : Phy) → validOf p ≡ true → Stepping p (event 8 a b c d g h) (onOpenAccept p)
+unfolding onOpenAccept heard
+on-open-accept a b c d g h =
+    let e = event 8 a b c d g h in
+    let q = still e 0 refl refl (omega arith) in
+    by-shape (λ p. Stepping p e (onOpenAccept p))
+    (q 0 1 refl) (q 2 1 refl) (q 6 1 refl)
+    (λ f v. record { valid = connected-valid (f .settings) (f .request .protocol) false (protocol-known (f .request) (asked v)); tally = record { code = refl; carries = refl; opens = refl }; flag = refl; reports = refl })
+    (q 2 2 refl) (q 6 2 refl) (q 3 3 refl) (q 4 3 refl) (q 5 3 refl) (q 6 3 refl) (q 5 4 refl) (q 6 4 refl)
+
+-- ---- 5 and 6, Accept Opens and Reject Opens: the flag alone changes
+on-accept : (code a b c d g h : ℕ) (flag : Bool) → eqb code tick ≡ false → eqb code txOpen ≡ false → setsFlag code ≡ true → (p : Phy) → validOf p ≡ true → Stepping p (event code a b c d g h) (onAccept p flag)
+unfolding onAccept heard left validOf
+on-accept code a b c d g h flag other opens sets p v =
+    record {
+      valid = v;
+      tally =
+          by-test (waits (p .port))
+          (λ t. rw t (record { silent = refl; none = refl; opens = rw opens; request = rw other; falls = rw other (omega arith) }))
+          (λ f. rw f (record { silent = refl; none = refl; opens = rw opens }));
+      flag = rw sets tt;
+      reports = refl;
+    }
+
+-- ---- the kept reason is one of the answers
+timeout-or-request : (reason : ℕ) → eqb reason openTimeout || eqb reason portLayerRequest ≡ true → isAnswer reason ≡ true
+timeout-or-request reason e =
+    either (eqb reason openTimeout) (eqb reason portLayerRequest) e
+    (λ t. at-number (λ n. isAnswer n ≡ true) reason openTimeout t refl)
+    (λ t. at-number (λ n. isAnswer n ≡ true) reason portLayerRequest t refl)
+
+reason5 : {f : Fields} → Facts 5 4 f → isAnswer (f .reason) ≡ true
+reason5 {f} v =
+    timeout-or-request (f .reason) (in-range (eqb (f .reason) openTimeout || eqb (f .reason) portLayerRequest) (eqb (f .reason) 0) (v .reason))
+
+reason6 : {f : Fields} → Facts 6 4 f → isAnswer (f .reason) ≡ true
+reason6 {f} v =
+    either (eqb (f .reason) openBroken) false (in-range (eqb (f .reason) openBroken || false) (eqb (f .reason) 0) (v .reason))
+    (λ t. at-number (λ n. isAnswer n ≡ true) (f .reason) openBroken t refl)
+    (λ t. absurd (false≢true t))
+
+-- ---- 9, OPEN_REJECT: in L1 the request is answered by the reason, in L5 the link is idle
+rejects : (reason : ℕ) → reason ≤ mostReject → isAnswer (rejectAnswer reason) ≡ true
+unfolding rejectAnswer
+rejects reason h = each (λ n. isAnswer (rejectAnswer n) ≡ true) 8 ((((((((tt, refl), refl), refl), refl), refl), refl), refl), refl) reason (omega arith)
+
+on-open-reject : (a b c d g h : ℕ) → knownOf (event 9 a b c d g h) ≡ true → (p : Phy) → validOf p ≡ true → Stepping p (event 9 a b c d g h) (onOpenReject p (event 9 a b c d g h))
+unfolding onOpenReject toIdle heard
+on-open-reject a b c d g h k =
+    let e = event 9 a b c d g h in
+    let q = still e 0 refl refl (omega arith) in
+    by-shape (λ p. Stepping p e (onOpenReject p e))
+    (q 0 1 refl) (q 2 1 refl) (q 6 1 refl)
+    (λ f v. record { valid = idle-valid (f .settings); tally = record { code = rejects a (reason-known a b c d g h k); carries = refl; opens = refl }; flag = refl; reports = refl })
+    (q 2 2 refl) (q 6 2 refl) (q 3 3 refl) (q 4 3 refl)
+    (λ f v. record { valid = idle-valid (f .settings); tally = record { silent = refl; none = refl; opens = refl }; flag = refl; reports = refl })
+    (q 6 3 refl)
+    (λ f v. record { valid = idle-valid (f .settings); tally = record { code = reason5 v; carries = refl; opens = refl }; flag = refl; reports = refl })
+    (q 6 4 refl)
+
+-- ---- 10, AIP: in L1 the timer starts anew
+on-aip : (a b c d g h : ℕ) (p : Phy) → validOf p ≡ true → Stepping p (event 10 a b c d g h) (onAip p)
+unfolding onAip heard left
+on-aip a b c d g h =
+    let e = event 10 a b c d g h in
+    let q = still e 0 refl refl (omega arith) in
+    by-shape (λ p. Stepping p e (onAip p))
+    (q 0 1 refl) (q 2 1 refl) (q 6 1 refl)
+    (λ f v. record { valid = counted-valid 1 2 f fullTimer refl refl v; tally = record { silent = refl; none = refl; opens = refl; request = refl; falls = omega (arith, at-least-one (f .timer) (runs1 v)) }; flag = refl; reports = refl })
+    (q 2 2 refl) (q 6 2 refl) (q 3 3 refl) (q 4 3 refl) (q 5 3 refl) (q 6 3 refl) (q 5 4 refl) (q 6 4 refl)
+
+-- ---- 11, BREAK
+on-break : (a b c d g h : ℕ) (p : Phy) → validOf p ≡ true → Stepping p (event 11 a b c d g h) (onBreak p)
+unfolding onBreak toIdle heard left
+on-break a b c d g h =
+    let e = event 11 a b c d g h in
+    let q = still e 0 refl refl (omega arith) in
+    by-shape (λ p. Stepping p e (onBreak p))
+    (q 0 1 refl)
+    (λ f v. record { valid = rw (no-request v) (breaking-valid (f .settings)); tally = record { silent = refl; none = refl; opens = refl }; flag = refl; reports = refl })
+    (q 6 1 refl)
+    (λ f v. record { valid = broken-valid (f .settings) (f .request) (asked v); tally = record { silent = refl; none = refl; opens = refl; request = refl; falls = omega arith }; flag = refl; reports = refl })
+    (λ f v. record { valid = waiting-valid (f .settings) (f .request) (asked v); tally = record { silent = refl; none = refl; opens = refl; request = refl; falls = omega arith }; flag = refl; reports = refl })
+    (q 6 2 refl)
+    (λ f v. record { valid = cut-valid (f .settings) (f .connection) (linked v); tally = record { silent = refl; none = refl; opens = refl }; flag = refl; reports = refl })
+    (λ f v. record { valid = cut-valid (f .settings) (f .connection) (linked v); tally = record { silent = refl; none = refl; opens = refl }; flag = refl; reports = refl })
+    (λ f v. record { valid = idle-valid (f .settings); tally = record { silent = refl; none = refl; opens = refl }; flag = refl; reports = refl })
+    (q 6 3 refl)
+    (λ f v. record { valid = idle-valid (f .settings); tally = record { code = reason5 v; carries = refl; opens = refl }; flag = refl; reports = refl })
+    (q 6 4 refl)
+
+-- ---- 12, CLOSE
+on-close : (a b c d g h : ℕ) (p : Phy) → validOf p ≡ true → Stepping p (event 12 a b c d g h) (onClose p)
+unfolding onClose
+on-close a b c d g h =
+    let e = event 12 a b c d g h in
+    let q = still e 0 refl refl (omega arith) in
+    by-shape (λ p. Stepping p e (onClose p))
+    (q 0 1 refl) (q 2 1 refl) (q 6 1 refl) (q 1 2 refl) (q 2 2 refl) (q 6 2 refl)
+    (λ f v. record { valid = connected-valid (f .settings) (f .connection) true (linked v); tally = record { silent = refl; none = refl; opens = refl }; flag = refl; reports = refl })
+    (λ f v. record { valid = idle-valid (f .settings); tally = record { silent = refl; none = refl; opens = refl }; flag = refl; reports = refl })
+    (q 5 3 refl) (q 6 3 refl) (q 5 4 refl) (q 6 4 refl)
+
+-- ---- 14 and 15, HARD_RESET and Phy Disabled
+on-reset : (code a b c d g h : ℕ) → eqb code tick ≡ false → eqb code txOpen ≡ false → setsFlag code ≡ true → (p : Phy) → validOf p ≡ true → Stepping p (event code a b c d g h) (onReset p)
+unfolding onReset heard
+on-reset code a b c d g h other opens sets =
+    let e = event code a b c d g h in
+    let s : Settings = record { accept = false } in
+    let P : Phy → Type 0 = λ p. Stepping p e (onReset p) in
+    let one : (link : ℕ) (f : Fields) → Facts link 1 f → P (phyOf link 1 f) = λ link f v. record { valid = idle-valid s; tally = record { silent = refl; none = refl; opens = rw opens }; flag = rw sets tt; reports = refl } in
+    let two : (link : ℕ) (f : Fields) → Facts link 2 f → P (phyOf link 2 f) = λ link f v. record { valid = idle-valid s; tally = record { code = refl; carries = rw other; opens = rw opens }; flag = rw sets tt; reports = refl } in
+    let three : (link : ℕ) (f : Fields) → Facts link 3 f → P (phyOf link 3 f) = λ link f v. record { valid = idle-valid s; tally = record { silent = refl; none = refl; opens = rw opens }; flag = rw sets tt; reports = refl } in
+    let four : (link : ℕ) (f : Fields) → Facts link 4 f → P (phyOf link 4 f) = λ link f v. record { valid = idle-valid s; tally = record { code = refl; carries = rw other; opens = rw opens }; flag = rw sets tt; reports = refl } in
+    by-shape P (one 0) (one 2) (one 6) (two 1) (two 2) (two 6) (three 3) (three 4) (three 5) (three 6) (four 5) (four 6)
+
+-- ---- 13, tick
+
+-- the far end's OPEN is taken: who opened tells the answer
+opener : (source destination : ℕ) → isAnswer (openedBy source destination) ≡ true
+unfolding openedBy
+opener source destination = by-pick (λ n. isAnswer n ≡ true) (eqb source destination) (λ t. refl) (λ f. refl)
+
+-- a timer that falls by one still runs
+falling : (t : ℕ) → timed t ≡ true → leb t 1 ≡ false → timed (t - 1) || (false && eqb (t - 1) 0) ≡ true
+falling t h f = rw (timed-down t h f)
+
+-- the same phy in L1 with its request grown and its timer one less
+waited-valid : (f : Fields) (t : ℕ) → timed t ≡ true → Facts 1 2 f → validOf (withTimer (withRequest (phyOf 1 2 f) (longer (f .request))) t) ≡ true
+unfolding validRequest
+waited-valid f t ht v =
+    valid-of 1 2
+    (record { timer = t; request = longer (f .request); reason = f .reason; source = f .source; inbound = f .inbound; connection = f .connection; closed = f .closed; settings = f .settings })
+    refl (record { timer = in-use (timed t) (eqb t 0) ht; request = in-use (openKnown (longer (f .request))) (isNoOpen (longer (f .request))) (longer-known (f .request) (asked v)); reason = v .reason; inbound = v .inbound; connection = v .connection; closed = v .closed })
+
+-- in L1 the request has waited longer, and the timer runs on or is over
+tick-requesting : (a b c d g h : ℕ) (f : Fields) → Facts 1 2 f → Stepping (phyOf 1 2 f) (event 13 a b c d g h) (onTick (phyOf 1 2 f))
+unfolding onTick onTickAged aged tickRequesting heard left
+tick-requesting a b c d g h f v =
+    let t = runs1 v in
+    by-pick (Stepping (phyOf 1 2 f) (event 13 a b c d g h)) (leb (f .timer) 1)
+    (λ o. record { valid = giving-up-valid (f .settings) (longer (f .request)) openTimeout (longer-known (f .request) (asked v)) refl; tally = record { silent = refl; none = refl; opens = refl; request = refl; falls = omega (arith, at-least-one (f .timer) t) }; flag = refl; reports = refl })
+    (λ u. record { valid = waited-valid f (f .timer - 1) (timed-down (f .timer) t u) v; tally = record { silent = refl; none = refl; opens = refl; request = refl; falls = omega (arith, at-least-one (f .timer) t) }; flag = refl; reports = refl })
+
+on-tick : (a b c d g h : ℕ) (p : Phy) → validOf p ≡ true → Stepping p (event 13 a b c d g h) (onTick p)
+unfolding onTick onTickAged aged tickClosing tickBreaking tickSelected accepted toIdle heard left
+on-tick a b c d g h =
+    let e = event 13 a b c d g h in
+    let P : Phy → Type 0 = λ p. Stepping p e (onTick p) in
+    by-shape P
+    (λ f v. record { valid = valid-of 0 1 f refl v; tally = record { silent = refl; none = refl; opens = refl }; flag = refl; reports = refl })
+    (λ f v. by-pick (Stepping (phyOf 2 1 f) e) (f .settings .accept)
+        (λ _. record { valid = connected-valid (f .settings) (f .inbound) false (inbounds v); tally = record { silent = refl; none = refl; opens = refl }; flag = refl; reports = refl })
+        (λ _. record { valid = idle-valid (f .settings); tally = record { silent = refl; none = refl; opens = refl }; flag = refl; reports = refl }))
+    (λ f v. record { valid = idle-valid (f .settings); tally = record { silent = refl; none = refl; opens = refl }; flag = refl; reports = refl })
+    (λ f v. tick-requesting a b c d g h f v)
+    (λ f v. by-pick (Stepping (phyOf 2 2 f) e) (f .settings .accept)
+        (λ _. record { valid = connected-valid (f .settings) (f .inbound) false (inbounds v); tally = record { code = opener (f .source) (longer (f .request) .destination); carries = refl; opens = refl }; flag = refl; reports = refl })
+        (λ _. record { valid = idle-valid (f .settings); tally = record { code = refl; carries = refl; opens = refl }; flag = refl; reports = refl }))
+    (λ f v. record { valid = idle-valid (f .settings); tally = record { code = refl; carries = refl; opens = refl }; flag = refl; reports = refl })
+    (λ f v. record { valid = valid-of 3 3 f refl v; tally = record { silent = refl; none = refl; opens = refl }; flag = refl; reports = refl })
+    (λ f v. by-pick (Stepping (phyOf 4 3 f) e) (leb (f .timer) 1)
+        (λ _. record { valid = cutting-valid (f .settings) (f .connection) (linked v); tally = record { silent = refl; none = refl; opens = refl }; flag = refl; reports = refl })
+        (λ u. record { valid = counted-valid 4 3 f (f .timer - 1) refl (falling (f .timer) (runs4 v) u) v; tally = record { silent = refl; none = refl; opens = refl }; flag = refl; reports = refl }))
+    (λ f v. by-pick (Stepping (phyOf 5 3 f) e) (leb (f .timer) 1)
+        (λ _. record { valid = idle-valid (f .settings); tally = record { silent = refl; none = refl; opens = refl }; flag = refl; reports = refl })
+        (λ u. record { valid = counted-valid 5 3 f (f .timer - 1) refl (falling (f .timer) (runs5 v) u) v; tally = record { silent = refl; none = refl; opens = refl }; flag = refl; reports = refl }))
+    (λ f v. record { valid = idle-valid (f .settings); tally = record { silent = refl; none = refl; opens = refl }; flag = refl; reports = refl })
+    (λ f v. by-pick (Stepping (phyOf 5 4 f) e) (leb (f .timer) 1)
+        (λ _. record { valid = idle-valid (f .settings); tally = record { code = reason5 v; carries = refl; opens = refl }; flag = refl; reports = refl })
+        (λ u. record { valid = counted-valid 5 4 f (f .timer - 1) refl (falling (f .timer) (runs5 v) u) v; tally = record { silent = refl; none = refl; opens = refl; request = refl; falls = omega (arith, at-least-one (f .timer) (runs5 v)) }; flag = refl; reports = refl }))
+    (λ f v. record { valid = idle-valid (f .settings); tally = record { code = reason6 v; carries = refl; opens = refl }; flag = refl; reports = refl })
+
+-- ---- any known event
+
+by-code :
+  (R : ℕ → Type 0) → R 1 → R 2 → R 3 → R 4 → R 5 → R 6 → R 7 → R 8 → R 9 → R 10 → R 11 → R 12 → R 13 → R 14 → R 15
+  → (code : ℕ) → codeKnown code ≡ true → R code
+by-code R a b c d e f g h i j k l m n o code v =
+    let q = both (leb txOpen code) (leb code phyDisabled) v in
+    each (λ n. 1 ≤ n → R n) 16
+    ((((((((((((((((tt, λ l. absurd (omega arith)), λ _. a), λ _. b), λ _. c), λ _. d), λ _. e), λ _. f), λ _. g), λ _. h), λ _. i), λ _. j), λ _. k), λ _. l), λ _. m), λ _. n), λ _. o)
+    code (omega (arith, leb-true code phyDisabled (q .1))) (leb-true txOpen code (q .0))
+
+code-known : (e : Event) → knownOf e ≡ true → codeKnown (e .code) ≡ true
+unfolding knownOf
+code-known e k = both (codeKnown (e .code)) (argumentsKnown (e .code) (e .first) (e .second) (e .third) (e .fourth) (e .fifth) (e .sixth)) k .0
+
+-- the one-step law: a valid phy and a known event
+pub one-step : (p : Phy) (e : Event) → validOf p ≡ true → knownOf e ≡ true → Stepping p e (moveOf p e)
+unfolding moveOf
+one-step p e v =
+    let a = e .first in
+    let b = e .second in
+    let c = e .third in
+    let d = e .fourth in
+    let g = e .fifth in
+    let h = e .sixth in
+    λ k. by-code (λ code. knownOf (event code a b c d g h) ≡ true → Stepping p (event code a b c d g h) (moveOf p (event code a b c d g h)))
+    (λ k. on-tx-open a b c d g h k p v)
+    (λ k. on-cancel-open a b c d g h p v)
+    (λ k. on-close-connection a b c d g h p v)
+    (λ k. on-smp-break a b c d g h p v)
+    (λ k. on-accept 5 a b c d g h true refl refl refl p v)
+    (λ k. on-accept 6 a b c d g h false refl refl refl p v)
+    (λ k. on-open-received a b c d g h k p v)
+    (λ k. on-open-accept a b c d g h p v)
+    (λ k. on-open-reject a b c d g h k p v)
+    (λ k. on-aip a b c d g h p v)
+    (λ k. on-break a b c d g h p v)
+    (λ k. on-close a b c d g h p v)
+    (λ k. on-tick a b c d g h p v)
+    (λ k. on-reset 14 a b c d g h refl refl refl p v)
+    (λ k. on-reset 15 a b c d g h refl refl refl p v)
+    (e .code) (code-known e k) k

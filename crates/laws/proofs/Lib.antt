@@ -1,0 +1,4 @@
+pub mod Tests
+pub mod Shapes
+pub mod OneStep
+pub mod ByEvent

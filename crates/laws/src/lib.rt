@@ -1,0 +1,1 @@
+// Laws over every valid phy: definitions and proofs alone, no code.
