@@ -402,7 +402,7 @@ on-tick a b c d g h =
 
 -- ---- any known event
 
-by-code :
+pub by-code :
   (R : ℕ → Type 0) → R 1 → R 2 → R 3 → R 4 → R 5 → R 6 → R 7 → R 8 → R 9 → R 10 → R 11 → R 12 → R 13 → R 14 → R 15
   → (code : ℕ) → codeKnown code ≡ true → R code
 by-code R a b c d e f g h i j k l m n o code v =
@@ -411,7 +411,7 @@ by-code R a b c d e f g h i j k l m n o code v =
     ((((((((((((((((tt, λ l. absurd (omega arith)), λ _. a), λ _. b), λ _. c), λ _. d), λ _. e), λ _. f), λ _. g), λ _. h), λ _. i), λ _. j), λ _. k), λ _. l), λ _. m), λ _. n), λ _. o)
     code (omega (arith, leb-true code phyDisabled (q .1))) (leb-true txOpen code (q .0))
 
-code-known : (e : Event) → knownOf e ≡ true → codeKnown (e .code) ≡ true
+pub code-known : (e : Event) → knownOf e ≡ true → codeKnown (e .code) ≡ true
 unfolding knownOf
 code-known e k = both (codeKnown (e .code)) (argumentsKnown (e .code) (e .first) (e .second) (e .third) (e .fourth) (e .fifth) (e .sixth)) k .0
 

@@ -6,7 +6,7 @@ use mathlib.Core.Path.{_≡_, refl, subst}
 use native.Mathlib.Nat.{le-antisymm, le-of-suc-le-suc}
 use native.Mathlib.Omega.{arith}
 use borrow.Author.Tests.{eq-eqb, ne-eqb, ltb-true, ltb-false}
-use lib.Dec.{ltb}
+use lib.Dec.{eqb, ltb}
 use Rattle.table.specs.Choice.{pick, Row, rows, Listed, OthersFrom, Unlisted}
 
 -- the first row of a number is what the table says there: each row before it has another number
@@ -56,3 +56,13 @@ each P (suc n) e k h = by-order k n (λ l. each P n (e .0) k l) (λ g. subst P (
 pub by-pick : {A : Type 0} (P : A → Type 0) (test : Bool) {a b : A} → (test ≡ true → P a) → (test ≡ false → P b) → P (pick test a b)
 by-pick P true f g = f refl
 by-pick P false f g = g refl
+
+-- each entry of a table has a property
+abbrev pub EachRow : {A : Type 0} → (A → Type 0) → List (Row A) → Type 0
+EachRow P [] = Unit
+EachRow P (r ∷ rs) = P (r .entry) × EachRow P rs
+
+-- what holds of each row and of the default holds of the table at any number
+pub every : {A : Type 0} (P : A → Type 0) (n : ℕ) (table : List (Row A)) {other : A} → EachRow P table → P other → P (rows n table other)
+every P n [] h o = o
+every P n (r ∷ rs) h o = by-pick P (eqb n (r .key)) (λ _. h .0) (λ _. every P n rs (h .1) o)

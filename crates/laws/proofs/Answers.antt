@@ -1,0 +1,63 @@
+-- An answer comes where a request waits and then waits no more: by the four kinds of a step.
+use Prim.Native.Nat.{ℕ, _≤_}
+use mathlib.Core.Bool.{Bool, true, false, _||_, false≢true}
+use mathlib.Core.Logic.{_⊎_, inl, inr}
+use mathlib.Core.Path.{_≡_, refl, sym, ap, subst, _∙_}
+use native.Mathlib.Omega.{arith}
+use lib.Dec.{eqb, leb}
+use Rattle.table.specs.Choice.{pick}
+use Rattle.table.proofs.Laws.{by-test, by-pick}
+use Rattle.event.specs.Table.{knownOf, openKnown}
+use Rattle.event.specs.declared.Event.{Event}
+use Rattle.event.specs.declared.Open.{Open}
+use Rattle.phy.specs.Names.{P1, P3}
+use Rattle.phy.specs.State.{noOpen, validOf}
+use Rattle.phy.specs.Step.{moveOf, stepOf}
+use Rattle.phy.specs.declared.Phy.{Phy}
+use Rattle.phy.specs.declared.Stepped.{Stepped}
+use Rattle.laws.specs.Waiting.{waits, isAnswer, heard}
+use Rattle.laws.specs.Laws.{FromWaiting, AnswersComeFromWaiting, ArgumentsExactly}
+use Rattle.laws.proofs.Shapes.{by-shape}
+use Rattle.laws.proofs.OneStep.{Nothing, Taken, Kept, Answered, Tally, Stepping}
+use Rattle.laws.proofs.Steps.{by-way}
+
+-- ---- the four kinds, by whether a request waits before and after
+
+pub by-tally :
+  (Q : Type 0) (p : Phy) (e : Event) (r : Stepped) → Tally p e r
+  → (waits (p .port) ≡ true → waits (r .next .port) ≡ true → Kept p e r → Q)
+  → (waits (p .port) ≡ true → waits (r .next .port) ≡ false → Answered p e r → Q)
+  → (waits (p .port) ≡ false → waits (r .next .port) ≡ true → Taken e r → Q)
+  → (waits (p .port) ≡ false → waits (r .next .port) ≡ false → Nothing e r → Q)
+  → Q
+by-tally Q p e r t a b c d =
+    by-test (waits (p .port))
+    (λ w. by-test (waits (r .next .port)) (λ u. a w u (rw (w, u) at t)) (λ u. b w u (rw (w, u) at t)))
+    (λ w. by-test (waits (r .next .port)) (λ u. c w u (rw (w, u) at t)) (λ u. d w u (rw (w, u) at t)))
+
+-- a valid phy in which no request waits is in P1 or P3
+settled : (p : Phy) → validOf p ≡ true → waits (p .port) ≡ false → (p .port ≡ P1) ⊎ (p .port ≡ P3)
+settled =
+    by-shape (λ p. waits (p .port) ≡ false → (p .port ≡ P1) ⊎ (p .port ≡ P3))
+    (λ f v w. inl refl) (λ f v w. inl refl) (λ f v w. inl refl)
+    (λ f v w. absurd (false≢true (sym w))) (λ f v w. absurd (false≢true (sym w))) (λ f v w. absurd (false≢true (sym w)))
+    (λ f v w. inr refl) (λ f v w. inr refl) (λ f v w. inr refl) (λ f v w. inr refl)
+    (λ f v w. absurd (false≢true (sym w))) (λ f v w. absurd (false≢true (sym w)))
+
+record From (p : Phy) (r : Stepped) : Type 0 where
+  waited : waits (p .port) ≡ true
+  code : isAnswer (r .answer) ≡ true
+  after : (r .next .port ≡ P1) ⊎ (r .next .port ≡ P3)
+
+from : (p : Phy) (e : Event) (r : Stepped) → Stepping p e r → (r .answer ≡ 0 → ⊥) → From p r
+from p e r s n =
+    by-tally (From p r) p e r (s .tally)
+    (λ _ _ k. absurd (n (k .silent)))
+    (λ w u a. record { waited = w; code = a .code; after = settled (r .next) (s .valid) u })
+    (λ _ _ k. absurd (n (k .silent)))
+    (λ _ _ k. absurd (n (k .silent)))
+
+pub answers-come-from-waiting : AnswersComeFromWaiting
+answers-come-from-waiting p e n =
+    let f = by-way (λ r. (r .answer ≡ 0 → ⊥) → From p r) p e (λ _ n. absurd (n refl)) (λ _ _ n. absurd (n refl)) (λ _ _ s. from p e (moveOf p e) s) n in
+    record { waited = f .waited; code = f .code; after = f .after }
