@@ -1,4 +1,5 @@
-// Cases of the crate `identify`: a walk of steps, each from the identification that the one before gave.
+// Cases of the crate `identify`: a walk of steps, each from the identification that the one before
+// gave.
 use crate::text::Place;
 use crate::text::put_line;
 use crate::text::take;
@@ -11,7 +12,8 @@ const FIELDS: usize = 7;
 
 const LINE: usize = 9;
 
-fn identification(f: &[u64; FIELDS]) -> Identification {
+// A flag is 0 or 1 in the case file.
+fn identification(f: [u64; FIELDS]) -> Identification {
     Identification {
         receiver: f[0],
         count: f[1],
@@ -39,13 +41,14 @@ fn line(r: Stepped) -> [u64; LINE] {
     ]
 }
 
-// identification, count, events each with its argument: a line for each event
+// identification, count, events with an argument: for each the refusal, the report and the
+// identification
 pub fn walk_case(s: &[u8], kind: u64, place: usize, out: &mut [u8], n: usize) -> Place {
     let mut fields = [0u64; FIELDS];
     let first = take_many(s, place, &mut fields);
     let count = take(s, first);
     let mut left = count.value;
-    let mut state = identification(&fields);
+    let mut state = identification(fields);
     let mut next = count.next;
     let mut end = n;
     while 0 < left {

@@ -17,7 +17,8 @@ const ITEM: usize = 8;
 
 const LINE: usize = 25;
 
-fn phy_of(f: &[u64; FIELDS]) -> Phy {
+// A flag is 0 or 1 in the case file.
+fn phy_of(f: [u64; FIELDS]) -> Phy {
     let request = Open {
         destination: f[3],
         protocol: f[4],
@@ -41,7 +42,7 @@ fn phy_of(f: &[u64; FIELDS]) -> Phy {
     }
 }
 
-fn event_of(f: &[u64; ITEM]) -> Event {
+fn event_of(f: [u64; ITEM]) -> Event {
     Event {
         code: f[1],
         first: f[2],
@@ -120,20 +121,20 @@ fn repeat(out: &mut [u8], n: usize, kind: u64, phy: Phy, event: Event, times: u6
     }
 }
 
-// phy, count, items: how often, and an event
+// phy, count, items: for each step that has a line the refusal, the reports and the phy
 pub fn walk_case(s: &[u8], kind: u64, place: usize, out: &mut [u8], n: usize) -> Place {
     let mut fields = [0u64; FIELDS];
     let first = take_many(s, place, &mut fields);
     let count = take(s, first);
     let mut left = count.value;
-    let mut state = phy_of(&fields);
+    let mut state = phy_of(fields);
     let mut next = count.next;
     let mut end = n;
     while 0 < left {
         left -= 1;
         let mut item = [0u64; ITEM];
         next = take_many(s, next, &mut item);
-        let after = repeat(out, end, kind, state, event_of(&item), item[0]);
+        let after = repeat(out, end, kind, state, event_of(item), item[0]);
         state = after.next;
         end = after.n;
     }
