@@ -9,7 +9,9 @@
 enum case_kind {
     KIND_READ_NUMBER = 1,
     KIND_WRITE_NUMBER = 2,
-    KIND_DWS_WALK = 3
+    KIND_DWS_WALK = 3,
+    KIND_IDENTIFY_WALK = 4,
+    KIND_PHY_WALK = 5
 };
 
 /* The two files stay in step: whoever writes a case also writes the lines expected of it. */

@@ -6,7 +6,9 @@
 /* Each machine has its own seed, so more cases for one leave those of the others as they are. */
 enum case_seed {
     SEED_NUMBER = 1001,
-    SEED_DWS = 2002
+    SEED_DWS = 2002,
+    SEED_IDENTIFY = 3003,
+    SEED_PHY = 4004
 };
 
 static void make_all(struct case_file *file)
@@ -15,6 +17,10 @@ static void make_all(struct case_file *file)
     make_number_cases(file);
     file->random = SEED_DWS;
     make_dws_cases(file);
+    file->random = SEED_IDENTIFY;
+    make_identify_cases(file);
+    file->random = SEED_PHY;
+    make_phy_cases(file);
 }
 
 int main(int argc, char **argv)

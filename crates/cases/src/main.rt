@@ -1,8 +1,10 @@
 // Runs stored cases and prints what our functions give, a line for each. The cases stand on standard
 // input as numbers in the trace's own form, each case after the number of its kind; the expected
 // output is made by the reference alone.
+mod idents;
 mod input;
 mod numbers;
+mod phys;
 mod syncs;
 mod text;
 
@@ -15,6 +17,10 @@ const WRITE_NUMBER: u64 = 2;
 
 const DWS_WALK: u64 = 3;
 
+const IDENTIFY_WALK: u64 = 4;
+
+const PHY_WALK: u64 = 5;
+
 // The case at the start of what is ahead. An unknown kind ends the run: nothing after it could be
 // told apart.
 fn one_case(s: &[u8], out: &mut [u8], n: usize) -> text::Place {
@@ -25,6 +31,8 @@ fn one_case(s: &[u8], out: &mut [u8], n: usize) -> text::Place {
         READ_NUMBER => numbers::read_case(s, code, place, out, n),
         WRITE_NUMBER => numbers::write_case(s, code, place, out, n),
         DWS_WALK => syncs::walk_case(s, code, place, out, n),
+        IDENTIFY_WALK => idents::walk_case(s, code, place, out, n),
+        PHY_WALK => phys::walk_case(s, code, place, out, n),
         _ => text::Place { next: s.len(), n },
     }
 }

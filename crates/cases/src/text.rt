@@ -57,6 +57,19 @@ pub fn take_bytes(s: &[u8], place: usize) -> Part
     }
 }
 
+// A number for each place of an array; what it answers is where the next one stands.
+pub fn take_many(s: &[u8], place: usize, numbers: &mut [u64]) -> usize {
+    let mut next = place;
+    let mut i = 0;
+    while i < numbers.len() {
+        let number = take(s, next);
+        numbers[i] = number.value;
+        next = number.next;
+        i += 1;
+    }
+    next
+}
+
 fn put(out: &mut [u8], n: usize, b: u8) -> usize {
     if n < out.len() {
         out[n] = b;

@@ -1,0 +1,452 @@
+#include "cases.h"
+
+#include "identify.h"
+
+#include <assert.h>
+
+enum {
+    FIELDS = 7,
+    FIELD_RECEIVER = 0,
+    FIELD_COUNT = 1,
+    FIELD_TIMER = 5,
+    FIELD_OUTCOME = 6,
+    MOST_STEPS = 1300,
+    MOST_STATES = 200,
+    MOST_ITEMS = 14,
+    SEEDED_WALKS = 60,
+    SEEDED_STEPS = 100
+};
+
+/* Every bit but those of the type, and the type's lowest bit alone. */
+#define TYPE_IDENTIFY UINT64_C(0xF0FFFFFF)
+#define TYPE_OTHER UINT64_C(0x01000000)
+#define DWORD_MOST UINT64_C(0xFFFFFFFF)
+#define DWORD_PAST UINT64_C(0x100000000)
+
+struct identify_event_case {
+    uint64_t event;
+    uint64_t argument;
+};
+
+struct identify_walk {
+    struct identify start;
+    size_t count;
+    struct identify_event_case steps[MOST_STEPS];
+};
+
+/* A script's items end with a repeat of 0. */
+struct script_item {
+    unsigned repeat;
+    uint64_t event;
+    uint64_t argument;
+};
+
+/* ---- Walks ---- */
+
+static void to_fields(const struct identify *state, uint64_t fields[FIELDS])
+{
+    fields[FIELD_RECEIVER] = state->receiver;
+    fields[FIELD_COUNT] = state->count;
+    fields[2] = state->is_identify;
+    fields[3] = state->got;
+    fields[4] = state->sent;
+    fields[FIELD_TIMER] = state->timer;
+    fields[FIELD_OUTCOME] = state->outcome;
+}
+
+static struct identify from_fields(const uint64_t fields[FIELDS])
+{
+    return (struct identify){
+        .receiver = fields[FIELD_RECEIVER],
+        .count = fields[FIELD_COUNT],
+        .is_identify = fields[2] != 0,
+        .got = fields[3] != 0,
+        .sent = fields[4] != 0,
+        .timer = fields[FIELD_TIMER],
+        .outcome = fields[FIELD_OUTCOME]
+    };
+}
+
+static void walk_start(struct identify_walk *walk, struct identify start)
+{
+    walk->start = start;
+    walk->count = 0;
+}
+
+static void walk_add(struct identify_walk *walk, uint64_t event, uint64_t argument)
+{
+    assert(walk->count < MOST_STEPS);
+    walk->steps[walk->count] = (struct identify_event_case){.event = event, .argument = argument};
+    walk->count++;
+}
+
+static void expect_result(struct case_file *file, const struct identify_result *result)
+{
+    uint64_t line[2 + FIELDS] = {result->refusal, result->report};
+
+    to_fields(&result->state, line + 2);
+    expect_line(file, KIND_IDENTIFY_WALK, line, 2 + FIELDS);
+}
+
+static void walk_write(struct case_file *file, const struct identify_walk *walk)
+{
+    uint64_t fields[FIELDS];
+    struct identify state = walk->start;
+
+    to_fields(&state, fields);
+    case_number(file, KIND_IDENTIFY_WALK);
+    case_numbers(file, fields, FIELDS);
+    case_number(file, walk->count);
+    for (size_t i = 0; i < walk->count; i++) {
+        struct identify_event_case step = walk->steps[i];
+        struct identify_result result = identify_step(state, step.event, step.argument);
+
+        case_number(file, step.event);
+        case_number(file, step.argument);
+        expect_result(file, &result);
+        state = result.state;
+    }
+}
+
+static void single_step(struct case_file *file, struct identify state, uint64_t event, uint64_t argument)
+{
+    struct identify_walk walk;
+
+    walk_start(&walk, state);
+    walk_add(&walk, event, argument);
+    walk_write(file, &walk);
+}
+
+/* ---- Every valid state with every event ---- */
+
+static size_t add_if_valid(struct identify states[MOST_STATES], size_t count, struct identify state)
+{
+    if (!identify_is_valid(&state)) {
+        return count;
+    }
+    assert(count < MOST_STATES);
+    states[count] = state;
+    return count + 1;
+}
+
+/* All outcomes and timer's ends for one receiver, count and three flags. */
+static size_t add_valid_ends(struct identify states[MOST_STATES], size_t count, struct identify state)
+{
+    static const uint64_t timers[] = {0, 1, 2, 999, 1000};
+
+    for (uint64_t outcome = 0; outcome <= IDENTIFY_RESET_RECEIVED; outcome++) {
+        for (size_t i = 0; i < sizeof timers / sizeof timers[0]; i++) {
+            state.outcome = outcome;
+            state.timer = timers[i];
+            count = add_if_valid(states, count, state);
+        }
+    }
+    return count;
+}
+
+static void set_flags(struct identify *state, unsigned flags)
+{
+    state->is_identify = (flags & 1U) != 0;
+    state->got = (flags & 2U) != 0;
+    state->sent = (flags & 4U) != 0;
+}
+
+static size_t list_valid_states(struct identify states[MOST_STATES])
+{
+    size_t count = 0;
+
+    for (uint64_t receiver = 0; receiver <= RECEIVER_COMPLETED; receiver++) {
+        for (uint64_t dwords = 0; dwords <= IDENTIFY_FRAME_DWORDS; dwords++) {
+            for (unsigned flags = 0; flags < 8; flags++) {
+                struct identify state = {.receiver = receiver, .count = dwords};
+
+                set_flags(&state, flags);
+                count = add_valid_ends(states, count, state);
+            }
+        }
+    }
+    return count;
+}
+
+static const struct identify_event_case probes[] = {
+    {IDENTIFY_SOAF, 0}, {IDENTIFY_SOAF, 1}, {IDENTIFY_SOAF, 2}, {IDENTIFY_SOAF, DWORD_PAST},
+    {IDENTIFY_SOAF, UINT64_MAX},
+    {IDENTIFY_DATA_DWORD, 0}, {IDENTIFY_DATA_DWORD, 1}, {IDENTIFY_DATA_DWORD, 2},
+    {IDENTIFY_DATA_DWORD, TYPE_IDENTIFY}, {IDENTIFY_DATA_DWORD, TYPE_OTHER},
+    {IDENTIFY_DATA_DWORD, 0x02000000}, {IDENTIFY_DATA_DWORD, 0x04000000},
+    {IDENTIFY_DATA_DWORD, 0x08000000}, {IDENTIFY_DATA_DWORD, 0x10000000},
+    {IDENTIFY_DATA_DWORD, 0x00800000}, {IDENTIFY_DATA_DWORD, DWORD_MOST},
+    {IDENTIFY_DATA_DWORD, DWORD_PAST}, {IDENTIFY_DATA_DWORD, UINT64_MAX},
+    {IDENTIFY_EOAF, 0}, {IDENTIFY_EOAF, 1}, {IDENTIFY_EOAF, 2}, {IDENTIFY_EOAF, DWORD_PAST + 1},
+    {IDENTIFY_EOAF, UINT64_MAX},
+    {IDENTIFY_HARD_RESET, 0}, {IDENTIFY_HARD_RESET, 1}, {IDENTIFY_HARD_RESET, UINT64_MAX},
+    {IDENTIFY_OTHER_PRIMITIVE, 0}, {IDENTIFY_OTHER_PRIMITIVE, 1}, {IDENTIFY_OTHER_PRIMITIVE, DWORD_PAST},
+    {IDENTIFY_FRAME_SENT, 0}, {IDENTIFY_FRAME_SENT, 1}, {IDENTIFY_FRAME_SENT, UINT64_MAX},
+    {IDENTIFY_TICK, 0}, {IDENTIFY_TICK, 1}, {IDENTIFY_TICK, DWORD_PAST},
+    {IDENTIFY_ENABLE, 0}, {IDENTIFY_ENABLE, 1}, {IDENTIFY_ENABLE, UINT64_MAX},
+    {8, 0}, {8, 1}, {9, 0}, {256 + IDENTIFY_ENABLE, 0}, {DWORD_PAST + IDENTIFY_TICK, 0}, {UINT64_MAX, 0}
+};
+
+static void probe_valid_states(struct case_file *file, const struct identify *states, size_t count)
+{
+    for (size_t i = 0; i < count; i++) {
+        for (size_t k = 0; k < sizeof probes / sizeof probes[0]; k++) {
+            single_step(file, states[i], probes[k].event, probes[k].argument);
+        }
+    }
+}
+
+/* ---- Invalid records ---- */
+
+/* Enable is taken in every valid state, so its refusal is the record's fault alone. */
+static void judge_timers_and_outcomes(struct case_file *file, struct identify state)
+{
+    static const uint64_t timers[] = {0, 1, 1000, 1001};
+
+    for (size_t i = 0; i < sizeof timers / sizeof timers[0]; i++) {
+        for (uint64_t outcome = 0; outcome <= IDENTIFY_RESET_RECEIVED + 1; outcome++) {
+            state.timer = timers[i];
+            state.outcome = outcome;
+            single_step(file, state, IDENTIFY_ENABLE, 0);
+        }
+    }
+}
+
+static void judge_records(struct case_file *file)
+{
+    static const uint64_t counts[] = {0, 1, 8, 9};
+
+    for (uint64_t receiver = 0; receiver <= RECEIVER_COMPLETED + 1; receiver++) {
+        for (size_t i = 0; i < sizeof counts / sizeof counts[0]; i++) {
+            for (unsigned flags = 0; flags < 8; flags++) {
+                struct identify state = {.receiver = receiver, .count = counts[i]};
+
+                set_flags(&state, flags);
+                judge_timers_and_outcomes(file, state);
+            }
+        }
+    }
+}
+
+/* One field raised so that its low bits alone would still pass; the bad event comes second to the state. */
+static void judge_raised_field(struct case_file *file, struct identify state, size_t field, uint64_t raise)
+{
+    uint64_t fields[FIELDS];
+    struct identify_walk walk;
+
+    to_fields(&state, fields);
+    fields[field] += raise;
+    walk_start(&walk, from_fields(fields));
+    walk_add(&walk, 8, 0);
+    walk_add(&walk, IDENTIFY_DATA_DWORD, DWORD_PAST);
+    walk_add(&walk, IDENTIFY_ENABLE, 0);
+    walk_write(file, &walk);
+}
+
+static void judge_raised_fields(struct case_file *file, const struct identify *states, size_t count)
+{
+    static const size_t numbers[] = {FIELD_RECEIVER, FIELD_COUNT, FIELD_TIMER, FIELD_OUTCOME};
+    static const uint64_t raises[] = {256, DWORD_PAST, UINT64_MAX - 1000};
+
+    for (size_t i = 0; i < count; i += 3) {
+        for (size_t k = 0; k < sizeof numbers / sizeof numbers[0]; k++) {
+            judge_raised_field(file, states[i], numbers[k], raises[(i + k) % 3]);
+        }
+    }
+}
+
+/* ---- Whole frames ---- */
+
+static const struct script_item scripts[][MOST_ITEMS] = {
+    /* Got, then sent; what follows the outcome is ignored, but bad events are still refused. */
+    {{1, IDENTIFY_SOAF, 0}, {8, IDENTIFY_DATA_DWORD, TYPE_IDENTIFY}, {1, IDENTIFY_EOAF, 1},
+     {1, IDENTIFY_HARD_RESET, 0}, {3, IDENTIFY_TICK, 0}, {2, IDENTIFY_FRAME_SENT, 0},
+     {1, IDENTIFY_HARD_RESET, 0}, {1, IDENTIFY_EOAF, 2}, {1, 8, 0}, {1, IDENTIFY_ENABLE, 0}},
+    /* Sent, then got. */
+    {{1, IDENTIFY_FRAME_SENT, 0}, {3, IDENTIFY_TICK, 0}, {1, IDENTIFY_SOAF, 0},
+     {8, IDENTIFY_DATA_DWORD, 0}, {1, IDENTIFY_TICK, 0}, {1, IDENTIFY_EOAF, 1}, {2, IDENTIFY_TICK, 0},
+     {1, IDENTIFY_SOAF, 0}, {1, IDENTIFY_ENABLE, 0}, {1, IDENTIFY_TICK, 0}},
+    /* Nine dwords and a tenth, then a good frame before the EOAF of the spoiled one. */
+    {{1, IDENTIFY_SOAF, 0}, {10, IDENTIFY_DATA_DWORD, 0}, {1, IDENTIFY_HARD_RESET, 0}, {1, IDENTIFY_SOAF, 0},
+     {8, IDENTIFY_DATA_DWORD, 0}, {1, IDENTIFY_EOAF, 1}, {1, IDENTIFY_FRAME_SENT, 0}},
+    /* Nine dwords and the EOAF: one report only, and no frame after it counts. */
+    {{1, IDENTIFY_SOAF, 0}, {9, IDENTIFY_DATA_DWORD, 0}, {2, IDENTIFY_EOAF, 1}, {1, IDENTIFY_SOAF, 0},
+     {8, IDENTIFY_DATA_DWORD, 0}, {1, IDENTIFY_EOAF, 1}, {1, IDENTIFY_FRAME_SENT, 0},
+     {2, IDENTIFY_TICK, 0}, {1, IDENTIFY_HARD_RESET, 0}, {1, IDENTIFY_TICK, 0}},
+    /* Bad CRC. */
+    {{1, IDENTIFY_SOAF, 0}, {8, IDENTIFY_DATA_DWORD, 0}, {1, IDENTIFY_EOAF, 0},
+     {1, IDENTIFY_FRAME_SENT, 0}, {1, IDENTIFY_HARD_RESET, 0}, {1, IDENTIFY_ENABLE, 0}},
+    /* Wrong type in the first dword, right afterwards. */
+    {{1, IDENTIFY_SOAF, 0}, {1, IDENTIFY_DATA_DWORD, TYPE_OTHER}, {7, IDENTIFY_DATA_DWORD, 0},
+     {1, IDENTIFY_EOAF, 1}, {1, IDENTIFY_HARD_RESET, 0}},
+    /* Right type in the first dword, wrong afterwards: the first alone fixes it. */
+    {{1, IDENTIFY_SOAF, 0}, {1, IDENTIFY_DATA_DWORD, 0}, {7, IDENTIFY_DATA_DWORD, DWORD_MOST},
+     {1, IDENTIFY_EOAF, 1}, {1, IDENTIFY_FRAME_SENT, 0}},
+    /* A second SOAF inside starts again, and forgets the type. */
+    {{1, IDENTIFY_SOAF, 0}, {3, IDENTIFY_DATA_DWORD, TYPE_OTHER}, {1, IDENTIFY_SOAF, 0},
+     {8, IDENTIFY_DATA_DWORD, 0}, {1, IDENTIFY_EOAF, 1}, {1, IDENTIFY_FRAME_SENT, 0}},
+    {{1, IDENTIFY_SOAF, 0}, {4, IDENTIFY_DATA_DWORD, 0}, {2, IDENTIFY_SOAF, 0},
+     {4, IDENTIFY_DATA_DWORD, 0}, {1, IDENTIFY_EOAF, 1}},
+    /* HARD_RESET and another primitive inside are ignored. */
+    {{1, IDENTIFY_SOAF, 0}, {1, IDENTIFY_HARD_RESET, 0}, {4, IDENTIFY_DATA_DWORD, 0},
+     {1, IDENTIFY_HARD_RESET, 0}, {1, IDENTIFY_OTHER_PRIMITIVE, 0}, {4, IDENTIFY_DATA_DWORD, 0},
+     {1, IDENTIFY_HARD_RESET, 0}, {1, IDENTIFY_EOAF, 1}, {1, IDENTIFY_FRAME_SENT, 0}},
+    /* HARD_RESET before any frame, fresh and with the timer running; then Enable and a good frame. */
+    {{1, IDENTIFY_HARD_RESET, 0}, {1, IDENTIFY_FRAME_SENT, 0}, {1, IDENTIFY_SOAF, 0},
+     {1, IDENTIFY_ENABLE, 0}, {1, IDENTIFY_FRAME_SENT, 0}, {5, IDENTIFY_TICK, 0},
+     {1, IDENTIFY_HARD_RESET, 0}, {2, IDENTIFY_TICK, 0}, {1, IDENTIFY_ENABLE, 0}, {1, IDENTIFY_SOAF, 0},
+     {8, IDENTIFY_DATA_DWORD, 0}, {1, IDENTIFY_EOAF, 1}, {1, IDENTIFY_FRAME_SENT, 0}},
+    /* Dwords and EOAF without an SOAF. */
+    {{3, IDENTIFY_DATA_DWORD, 0}, {1, IDENTIFY_EOAF, 1}, {1, IDENTIFY_EOAF, 0},
+     {1, IDENTIFY_OTHER_PRIMITIVE, 0}, {1, IDENTIFY_TICK, 0}, {1, IDENTIFY_ENABLE, 0}},
+    /* Time-out at the thousandth tick, in the middle of a frame; a second own frame starts nothing. */
+    {{1, IDENTIFY_FRAME_SENT, 0}, {500, IDENTIFY_TICK, 0}, {1, IDENTIFY_FRAME_SENT, 0},
+     {499, IDENTIFY_TICK, 0}, {1, IDENTIFY_SOAF, 0}, {3, IDENTIFY_DATA_DWORD, 0}, {2, IDENTIFY_TICK, 0},
+     {5, IDENTIFY_DATA_DWORD, 0}, {1, IDENTIFY_EOAF, 1}, {1, IDENTIFY_HARD_RESET, 0},
+     {1, IDENTIFY_ENABLE, 0}},
+    /* Complete just before the thousandth tick. */
+    {{1, IDENTIFY_SOAF, 0}, {1, IDENTIFY_FRAME_SENT, 0}, {999, IDENTIFY_TICK, 0},
+     {8, IDENTIFY_DATA_DWORD, 0}, {1, IDENTIFY_EOAF, 1}, {1, IDENTIFY_TICK, 0}},
+    /* A failed frame does not stop the timer. */
+    {{1, IDENTIFY_FRAME_SENT, 0}, {1, IDENTIFY_SOAF, 0}, {8, IDENTIFY_DATA_DWORD, 0},
+     {1, IDENTIFY_EOAF, 0}, {1001, IDENTIFY_TICK, 0}}
+};
+
+static void play_script(struct case_file *file, const struct script_item items[MOST_ITEMS])
+{
+    struct identify_walk walk;
+
+    walk_start(&walk, identify_fresh());
+    for (size_t i = 0; i < MOST_ITEMS && items[i].repeat != 0; i++) {
+        for (unsigned k = 0; k < items[i].repeat; k++) {
+            walk_add(&walk, items[i].event, items[i].argument);
+        }
+    }
+    walk_write(file, &walk);
+}
+
+static void add_frame(struct identify_walk *walk, uint64_t dwords, uint64_t dword, uint64_t crc)
+{
+    walk_add(walk, IDENTIFY_SOAF, 0);
+    for (uint64_t i = 0; i < dwords; i++) {
+        walk_add(walk, IDENTIFY_DATA_DWORD, dword);
+    }
+    walk_add(walk, IDENTIFY_EOAF, crc);
+}
+
+static void frames_of_every_length(struct case_file *file)
+{
+    for (uint64_t dwords = 0; dwords <= IDENTIFY_FRAME_DWORDS + 2; dwords++) {
+        for (uint64_t crc = 0; crc <= 1; crc++) {
+            struct identify_walk walk;
+
+            walk_start(&walk, identify_fresh());
+            add_frame(&walk, dwords, TYPE_IDENTIFY, crc);
+            walk_add(&walk, IDENTIFY_ENABLE, 0);
+            add_frame(&walk, dwords, TYPE_OTHER, crc);
+            walk_write(file, &walk);
+        }
+    }
+}
+
+/* ---- Seeded walks ---- */
+
+static uint64_t random_dword(struct case_file *file)
+{
+    uint64_t dword = case_random(file) & DWORD_MOST;
+
+    return case_random_one_in(file, 6) ? dword : dword & TYPE_IDENTIFY;
+}
+
+static void add_random_frame(struct case_file *file, struct identify_walk *walk)
+{
+    uint64_t dwords = case_random_one_in(file, 3) ? case_random_below(file, 11) : IDENTIFY_FRAME_DWORDS;
+
+    walk_add(walk, IDENTIFY_SOAF, 0);
+    for (uint64_t i = 0; i < dwords; i++) {
+        walk_add(walk, IDENTIFY_DATA_DWORD, random_dword(file));
+        if (case_random_one_in(file, 12)) {
+            walk_add(walk, 3 + case_random_below(file, 4), 0);
+        }
+    }
+    if (!case_random_one_in(file, 8)) {
+        walk_add(walk, IDENTIFY_EOAF, case_random_one_in(file, 5) ? 0 : 1);
+    }
+}
+
+static void add_random_ticks(struct case_file *file, struct identify_walk *walk)
+{
+    uint64_t ticks = 1 + case_random_below(file, 4);
+
+    for (uint64_t i = 0; i < ticks; i++) {
+        walk_add(walk, IDENTIFY_TICK, 0);
+    }
+}
+
+static void add_random_event(struct case_file *file, struct identify_walk *walk)
+{
+    uint64_t event = case_random_below(file, 10);
+    uint64_t argument = case_random_below(file, 3);
+
+    walk_add(walk, event, argument);
+}
+
+static void add_random_phrase(struct case_file *file, struct identify_walk *walk)
+{
+    switch (case_random_below(file, 12)) {
+    case 0:
+    case 1:
+    case 2:
+        add_random_frame(file, walk);
+        return;
+    case 3:
+    case 4:
+        walk_add(walk, IDENTIFY_FRAME_SENT, 0);
+        return;
+    case 5:
+    case 6:
+        add_random_ticks(file, walk);
+        return;
+    case 7:
+        walk_add(walk, IDENTIFY_HARD_RESET, 0);
+        return;
+    case 8:
+    case 9:
+        walk_add(walk, IDENTIFY_ENABLE, 0);
+        return;
+    case 10:
+        walk_add(walk, IDENTIFY_DATA_DWORD, random_dword(file));
+        return;
+    default:
+        add_random_event(file, walk);
+        return;
+    }
+}
+
+static void seeded_walk(struct case_file *file, struct identify start)
+{
+    struct identify_walk walk;
+
+    walk_start(&walk, start);
+    while (walk.count < SEEDED_STEPS) {
+        add_random_phrase(file, &walk);
+    }
+    walk_write(file, &walk);
+}
+
+void make_identify_cases(struct case_file *file)
+{
+    struct identify states[MOST_STATES];
+    size_t count = list_valid_states(states);
+
+    probe_valid_states(file, states, count);
+    judge_records(file);
+    judge_raised_fields(file, states, count);
+    for (size_t i = 0; i < sizeof scripts / sizeof scripts[0]; i++) {
+        play_script(file, scripts[i]);
+    }
+    frames_of_every_length(file);
+    for (int i = 0; i < SEEDED_WALKS; i++) {
+        seeded_walk(file, states[case_random_below(file, count)]);
+    }
+}
