@@ -1,16 +1,17 @@
 -- An answer comes where a request waits and then waits no more: by the four kinds of a step.
 use Prim.Native.Nat.{ℕ, _≤_}
-use mathlib.Core.Bool.{Bool, true, false, _||_, false≢true}
-use mathlib.Core.Logic.{_⊎_, inl, inr}
+use mathlib.Core.Bool.{Bool, true, false, _&&_, _||_, false≢true}
+use mathlib.Core.Logic.{_↔_, _⊎_, inl, inr}
 use mathlib.Core.Path.{_≡_, refl, sym, ap, subst, _∙_}
 use native.Mathlib.Omega.{arith}
 use lib.Dec.{eqb, leb}
 use Rattle.table.specs.Choice.{pick}
 use Rattle.table.proofs.Laws.{by-test, by-pick}
-use Rattle.event.specs.Table.{knownOf, openKnown}
+use Rattle.event.specs.Table.{knownOf, argumentRange, argumentsKnown, openKnown}
+use Rattle.event.specs.Names.{tick}
 use Rattle.event.specs.declared.Event.{Event}
 use Rattle.event.specs.declared.Open.{Open}
-use Rattle.phy.specs.Names.{P1, P3}
+use Rattle.phy.specs.Names.{P1, P2, P3}
 use Rattle.phy.specs.State.{noOpen, validOf}
 use Rattle.phy.specs.Step.{moveOf, stepOf}
 use Rattle.phy.specs.declared.Phy.{Phy}
@@ -18,7 +19,8 @@ use Rattle.phy.specs.declared.Stepped.{Stepped}
 use Rattle.laws.specs.Waiting.{waits, isAnswer, heard}
 use Rattle.laws.specs.Laws.{FromWaiting, AnswersComeFromWaiting, ArgumentsExactly}
 use Rattle.laws.proofs.Shapes.{by-shape}
-use Rattle.laws.proofs.OneStep.{Nothing, Taken, Kept, Answered, Tally, Stepping}
+use Rattle.laws.proofs.OneStep.{Nothing, Taken, Kept, Answered, Tally, Stepping, longer-known}
+use Rattle.laws.proofs.ByEvent.{asked, asked4}
 use Rattle.laws.proofs.Steps.{by-way}
 
 -- ---- the four kinds, by whether a request waits before and after
@@ -61,3 +63,44 @@ pub answers-come-from-waiting : AnswersComeFromWaiting
 answers-come-from-waiting p e n =
     let f = by-way (λ r. (r .answer ≡ 0 → ⊥) → From p r) p e (λ _ n. absurd (n refl)) (λ _ _ n. absurd (n refl)) (λ _ _ s. from p e (moveOf p e) s) n in
     record { waited = f .waited; code = f .code; after = f .after }
+
+-- ---- the arguments
+
+-- a known Open is not none: its rate is 8 or 9
+known-not-none : (o : Open) → openKnown o ≡ true → o ≡ noOpen → ⊥
+unfolding openKnown argumentsKnown argumentRange
+known-not-none o k n = false≢true (subst (λ (x : Open). openKnown x ≡ true) n k)
+
+-- a request that waits is known, and stays so as it waits
+request-known : (p : Phy) → validOf p ≡ true → waits (p .port) ≡ true → openKnown (p .request) ≡ true
+request-known =
+    by-shape (λ p. waits (p .port) ≡ true → openKnown (p .request) ≡ true)
+    (λ f v w. absurd (false≢true w)) (λ f v w. absurd (false≢true w)) (λ f v w. absurd (false≢true w))
+    (λ f v w. asked v) (λ f v w. asked v) (λ f v w. asked v)
+    (λ f v w. absurd (false≢true w)) (λ f v w. absurd (false≢true w)) (λ f v w. absurd (false≢true w)) (λ f v w. absurd (false≢true w))
+    (λ f v w. asked4 v) (λ f v w. asked4 v)
+
+heard-known : (p : Phy) (e : Event) → validOf p ≡ true → waits (p .port) ≡ true → openKnown (heard p e) ≡ true
+unfolding heard
+heard-known p e v w =
+    by-pick (λ o. openKnown o ≡ true) (eqb (e .code) tick && eqb (p .port) P2)
+    (λ _. longer-known (p .request) (request-known p v w))
+    (λ _. request-known p v w)
+
+arguments : (p : Phy) (e : Event) (r : Stepped) → validOf p ≡ true → Stepping p e r → r .answered ≡ noOpen ↔ (r .answer ≡ 0)
+arguments p e r v s =
+    by-tally (r .answered ≡ noOpen ↔ (r .answer ≡ 0)) p e r (s .tally)
+    (λ _ _ k. (λ _. k .silent, λ _. k .none))
+    (λ w _ a. (
+      λ n. absurd (known-not-none (r .answered) (rw (a .carries) (heard-known p e v w)) n),
+      λ z. absurd (false≢true (subst (λ (n : ℕ). isAnswer n ≡ true) z (a .code))),
+    ))
+    (λ _ _ k. (λ _. k .silent, λ _. k .none))
+    (λ _ _ k. (λ _. k .silent, λ _. k .none))
+
+pub arguments-exactly : ArgumentsExactly
+arguments-exactly p e =
+    by-way (λ r. r .answered ≡ noOpen ↔ (r .answer ≡ 0)) p e
+    (λ _. (λ _. refl, λ _. refl))
+    (λ _ _. (λ _. refl, λ _. refl))
+    (λ v _ s. arguments p e (moveOf p e) v s)

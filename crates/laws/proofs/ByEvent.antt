@@ -36,11 +36,11 @@ is-no-open o h =
 
 -- ---- what validity says of the fields in use
 
-asked : {link : ℕ} {f : Fields} → Facts link 2 f → openKnown (f .request) ≡ true
+pub asked : {link : ℕ} {f : Fields} → Facts link 2 f → openKnown (f .request) ≡ true
 unfolding validRequest
 asked {f = f} h = in-range (openKnown (f .request)) (isNoOpen (f .request)) (h .request)
 
-asked4 : {link : ℕ} {f : Fields} → Facts link 4 f → openKnown (f .request) ≡ true
+pub asked4 : {link : ℕ} {f : Fields} → Facts link 4 f → openKnown (f .request) ≡ true
 unfolding validRequest
 asked4 {f = f} h = in-range (openKnown (f .request)) (isNoOpen (f .request)) (h .request)
 
