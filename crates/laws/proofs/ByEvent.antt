@@ -22,7 +22,7 @@ use Rattle.phy.specs.declared.Stepped.{Stepped}
 use Rattle.laws.specs.Waiting.{waits, accepts, isAnswer, heard, ticksOf, aipsOf, left}
 use Rattle.laws.proofs.Tests.{both, either, at-number, in-range, in-use}
 use Rattle.laws.proofs.Shapes.{Fields, phyOf, Facts, by-shape}
-use Rattle.laws.proofs.OneStep.{Nothing, Taken, Kept, Answered, setsFlag, Stepping, valid-of, still, protocol-known, longer-known, timed, at-least-one, timed-down}
+use Rattle.laws.proofs.OneStep.{Nothing, Taken, Kept, Answered, setsFlag, Stepping, valid-of, still, open-known, protocol-known, longer-known, timed, at-least-one, timed-down}
 
 -- an Open whose arguments are all zero is none
 is-no-open : (o : Open) → isNoOpen o ≡ true → o ≡ noOpen
@@ -50,7 +50,7 @@ runs1 {f = f} h = in-range (timed (f .timer)) (eqb (f .timer) 0) (h .timer)
 runs4 : {port : ℕ} {f : Fields} → Facts 4 port f → timed (f .timer) ≡ true
 runs4 {f = f} h = in-range (timed (f .timer)) (eqb (f .timer) 0) (h .timer)
 
-runs5 : {port : ℕ} {f : Fields} → Facts 5 port f → timed (f .timer) ≡ true
+pub runs5 : {port : ℕ} {f : Fields} → Facts 5 port f → timed (f .timer) ≡ true
 runs5 {f = f} h = in-range (timed (f .timer)) (eqb (f .timer) 0) (h .timer)
 
 inbounds : {port : ℕ} {f : Fields} → Facts 2 port f → leb (f .inbound) STP ≡ true
@@ -134,10 +134,6 @@ event code a b c d g h = record { code = code; first = a; second = b; third = c;
 
 -- ---- what a known event says of its arguments
 
-open-known : (a b c d g h : ℕ) → knownOf (event 1 a b c d g h) ≡ true → openKnown (openOf (event 1 a b c d g h)) ≡ true
-unfolding knownOf openKnown
-open-known a b c d g h k = k
-
 source-known : (a b c d g h : ℕ) → knownOf (event 7 a b c d g h) ≡ true → (leb a mostAddress ≡ true) × (leb b STP ≡ true)
 unfolding knownOf argumentsKnown argumentRange
 source-known a b c d g h k =
@@ -167,7 +163,7 @@ on-tx-open : (a b c d g h : ℕ) → knownOf (event 1 a b c d g h) ≡ true → 
 unfolding onTxOpen openByLink left
 on-tx-open a b c d g h k =
     let e = event 1 a b c d g h in
-    let o : openKnown (openOf e) ≡ true = open-known a b c d g h k in
+    let o : openKnown (openOf e) ≡ true = open-known e k refl in
     let q = still e 3 refl refl (omega arith) in
     by-shape (λ p. Stepping p e (onTxOpen p e))
     (λ f v. record { valid = requesting-valid (f .settings) fullTimer (openOf e) refl o; tally = record { silent = refl; none = refl; opens = refl; request = refl; soon = omega arith }; flag = refl; reports = refl })

@@ -115,6 +115,17 @@ protocol-known o k =
     let d = both (fit 0 (o .destination)) (fit 1 (o .protocol)) (c .0) in
     both (leb 0 (o .protocol)) (leb (o .protocol) STP) (d .1) .1
 
+pub wait-known : (o : Open) → openKnown o ≡ true → o .wait ≤ mostWait
+unfolding argumentRange
+wait-known o k = leb-true (o .wait) mostWait (both (leb 0 (o .wait)) (leb (o .wait) mostWait) (fits o k .1) .1)
+
+-- the Open of a known Tx Open
+pub open-known : (e : Event) → knownOf e ≡ true → e .code ≡ txOpen → openKnown (openOf e) ≡ true
+unfolding knownOf openKnown
+open-known e k h =
+    subst (λ (code : ℕ). argumentsKnown code (e .first) (e .second) (e .third) (e .fourth) (e .fifth) (e .sixth) ≡ true) h
+    (both (codeKnown (e .code)) (argumentsKnown (e .code) (e .first) (e .second) (e .third) (e .fourth) (e .fifth) (e .sixth)) k .1)
+
 -- a wait that has grown is still a wait
 longer-wait : (w : ℕ) → leb w mostWait ≡ true → leb (pick (leb mostWait w) w (w + 1)) mostWait ≡ true
 longer-wait w k = by-pick (λ n. leb n mostWait ≡ true) (leb mostWait w) (λ t. k) (λ f. le-leb (w + 1) mostWait (omega (arith, leb-false mostWait w f)))

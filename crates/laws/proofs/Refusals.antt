@@ -185,7 +185,7 @@ give-none (is-other c l n) g = absurd (n (g .protocol c))
 -- ---- exactly when
 
 -- a judged step is the event's move
-moves : (p : Phy) (e : Event) → Judged p e → stepOf p e ≡ moveOf p e
+pub moves : (p : Phy) (e : Event) → Judged p e → stepOf p e ≡ moveOf p e
 unfolding stepOf
 moves p e j = rw (j .valid, j .known)
 

@@ -1,0 +1,2 @@
+pub mod OneEntry
+pub mod Demand

@@ -1,0 +1,205 @@
+-- One entry: a valid phy and books that agree with it agree after any event.
+use Prim.Native.Nat.{ℕ, zero, suc, _+_, _*_, _≤_, _<_, min}
+use mathlib.Core.Bool.{Bool, true, false, _&&_, not, false≢true}
+use mathlib.Core.List.{List, [], _∷_}
+use mathlib.Core.Path.{_≡_, refl, sym, ap, subst, _∙_}
+use native.Mathlib.Nat.{add-zero}
+use native.Mathlib.Omega.{arith}
+use borrow.Author.Tests.{eq-eqb, eqb-true, leb-true, leb-false}
+use lib.Dec.{eqb, leb}
+use Rattle.table.specs.Choice.{pick}
+use Rattle.table.proofs.Laws.{by-test, by-pick}
+use Rattle.table.specs.Refusals.{badEvent}
+use Rattle.event.specs.Names.{txOpen, tick, aipReceived, mostWait}
+use Rattle.event.specs.Table.{openOf, knownOf}
+use Rattle.event.specs.declared.Event.{Event}
+use Rattle.event.specs.declared.Open.{Open}
+use Rattle.phy.specs.Names.{P2}
+use Rattle.phy.specs.State.{noOpen, validOf}
+use Rattle.phy.specs.Moves.{longer, refused}
+use Rattle.phy.specs.Step.{moveOf, stepOf}
+use Rattle.phy.specs.declared.Phy.{Phy}
+use Rattle.phy.specs.declared.Stepped.{Stepped}
+use Rattle.laws.specs.Waiting.{waits, accepts, isAnswer, heard, ticksOf, aipsOf, left}
+use Rattle.laws.specs.Laws.{Judged, Free}
+use Rattle.laws.proofs.Refusals.{moves, taken-exactly}
+use Rattle.laws.proofs.Shapes.{Fields, Facts, by-shape}
+use Rattle.laws.proofs.OneStep.{Nothing, Taken, Kept, Answered, Stepping, wait-known, open-known, at-least-one}
+use Rattle.laws.proofs.ByEvent.{runs5}
+use Rattle.laws.proofs.Tests.{both}
+use Rattle.laws.proofs.Steps.{by-way}
+use Rattle.laws.proofs.Answers.{by-tally}
+use Rattle.ledger.specs.Log.{Entry, entry, taken, accepted, answered, ticked, tickedInP2, heardAip}
+use Rattle.ledger.specs.Demand.{oneIfWaiting}
+use Rattle.ledger.specs.Ledger.{due, Waiting, Ledger, free, waiting, broken, grown, sameOpen, begins, through, silent, answers, book}
+
+-- the books of a phy: free where no request waits; else its request is the accepted Open, grown, and what it may yet take is within what is due
+pub record Holds (p : Phy) (w : Waiting) : Type 0 where
+  pub waits-too : waits (p .port) ≡ true
+  pub request : p .request ≡ grown w
+  pub in-time : w .ticks + left p ≤ due (w .aips)
+
+abbrev pub Agrees : Phy → Ledger → Type 0
+Agrees p free = waits (p .port) ≡ false
+Agrees p (waiting w) = Holds p w
+Agrees p broken = ⊥
+
+-- ---- tests
+
+same-refl : (o : Open) → sameOpen o o ≡ true
+same-refl o =
+    rw (eq-eqb (o .destination) (o .destination) refl, eq-eqb (o .protocol) (o .protocol) refl, eq-eqb (o .rate) (o .rate) refl, eq-eqb (o .tag) (o .tag) refl, eq-eqb (o .blocked) (o .blocked) refl, eq-eqb (o .wait) (o .wait) refl)
+
+pub same : (a b : Open) → a ≡ b → sameOpen a b ≡ true
+same a b e = subst (λ (x : Open). sameOpen a x ≡ true) e (same-refl a)
+
+-- an answer's code is not 0
+code-not-zero : (n : ℕ) → isAnswer n ≡ true → eqb n 0 ≡ false
+code-not-zero n a = by-test (eqb n 0) (λ t. absurd (false≢true (subst (λ (m : ℕ). isAnswer m ≡ true) (eqb-true n 0 t) a))) (λ f. f)
+
+pub is-silent : (x : Entry) → x .result .answer ≡ 0 → x .result .answered ≡ noOpen → silent x ≡ true
+is-silent x a n = rw (eq-eqb (x .result .answer) 0 a, same (x .result .answered) noOpen n)
+
+pub not-silent : (x : Entry) → isAnswer (x .result .answer) ≡ true → silent x ≡ false
+not-silent x a = rw (code-not-zero (x .result .answer) a)
+
+-- ---- the wait grows as the request does
+
+grown-longer : (w : Waiting) → longer (grown w) ≡ grown (record { open-as-accepted = w .open-as-accepted; ticks-in-P2 = w .ticks-in-P2 + 1; ticks = w .ticks; aips = w .aips })
+unfolding longer
+grown-longer w =
+    let n = w .open-as-accepted .wait + w .ticks-in-P2 in
+    let e : pick (leb mostWait (min mostWait n)) (min mostWait n) (min mostWait n + 1) ≡ min mostWait (w .open-as-accepted .wait + (w .ticks-in-P2 + 1)) =
+    by-pick (λ m. m ≡ min mostWait (w .open-as-accepted .wait + (w .ticks-in-P2 + 1))) (leb mostWait (min mostWait n))
+    (λ t. omega (arith, leb-true mostWait (min mostWait n) t))
+    (λ f. omega (arith, leb-false mostWait (min mostWait n) f)) in
+    ap (λ (v : ℕ). record { destination = w .open-as-accepted .destination; protocol = w .open-as-accepted .protocol; rate = w .open-as-accepted .rate; tag = w .open-as-accepted .tag; blocked = w .open-as-accepted .blocked; wait = v }) e
+
+-- an accepted Open begins with its own wait, which is in its range
+grown-begins : (x : Entry) → x .event .sixth ≤ mostWait → openOf (x .event) ≡ grown (begins x)
+grown-begins x h =
+    let e : x .event .sixth ≡ min mostWait (x .event .sixth + 0) = omega arith in
+    ap (λ (v : ℕ). record { destination = x .event .first; protocol = x .event .second; rate = x .event .third; tag = x .event .fourth; blocked = x .event .fifth; wait = v }) e
+
+-- ---- refused events count as neither
+
+no-code : (code : ℕ) (x : Entry) → eqb (x .result .refusal) 0 ≡ false → taken code x ≡ false
+no-code code x r = by-test (eqb (x .event .code) code) (λ t. rw (t, r)) (λ f. rw f)
+
+nothing-more : (n : ℕ) (test : Bool) → test ≡ false → n + pick test 1 0 ≡ n
+nothing-more n test f = rw f (add-zero n)
+
+-- a refused event leaves the books as they were
+pub refused-book : (l : Ledger) (x : Entry) → eqb (x .result .refusal) 0 ≡ false → silent x ≡ true → (l ≡ broken → ⊥) → book l x ≡ l
+unfolding book
+refused-book free x r s n = rw (s, no-code txOpen x r)
+refused-book (waiting w) x r s n =
+    rw (no-code txOpen x r, s)
+    (ap waiting (λ i. record {
+      open-as-accepted = w .open-as-accepted;
+      ticks-in-P2 = nothing-more (w .ticks-in-P2) (tickedInP2 x) (rw (no-code tick x r)) i;
+      ticks = nothing-more (w .ticks) (ticked x) (no-code tick x r) i;
+      aips = nothing-more (w .aips) (heardAip x) (no-code aipReceived x r) i;
+    }))
+refused-book broken x r s n = absurd (n refl)
+
+-- ---- a judged event
+
+module _ (p : Phy) (e : Event) (v : validOf p ≡ true) (k : knownOf e ≡ true) where
+  abbrev x : Entry
+  x = record { event = e; result = moveOf p e; port = p .port }
+
+  -- ticks and AIPs are never refused
+  unrefused : (code : ℕ) → (code ≡ 1 → ⊥) → (code ≡ 2 → ⊥) → (code ≡ 3 → ⊥) → (code ≡ 4 → ⊥) → e .code ≡ code → moveOf p e .refusal ≡ 0
+  unrefused code a b c d h =
+      let j : Judged p e = record { valid = v; known = k } in
+      ap (λ (r : Stepped). r .refusal) (sym (moves p e j))
+      ∙ taken-exactly p e .1 (j, record { opens = λ q. absurd (a (sym h ∙ q)); cancels = λ q. absurd (b (sym h ∙ q)); closes = λ q. absurd (c (sym h ∙ q)); breaks = λ q. absurd (d (sym h ∙ q)); protocol = λ q. absurd (d (sym h ∙ q)) })
+
+  counts : (code : ℕ) → (code ≡ 1 → ⊥) → (code ≡ 2 → ⊥) → (code ≡ 3 → ⊥) → (code ≡ 4 → ⊥) → taken code x ≡ eqb (e .code) code
+  counts code a b c d =
+      by-test (eqb (e .code) code)
+      (λ t. rw (t, eq-eqb (moveOf p e .refusal) 0 (unrefused code a b c d (eqb-true (e .code) code t))))
+      (λ f. rw f)
+
+  counts-ticks : taken tick x ≡ eqb (e .code) tick
+  counts-ticks = counts tick (omega arith) (omega arith) (omega arith) (omega arith)
+
+  counts-aips : taken aipReceived x ≡ eqb (e .code) aipReceived
+  counts-aips = counts aipReceived (omega arith) (omega arith) (omega arith) (omega arith)
+
+  -- the request that waits has grown as the books say
+  heard-grown : (w : Waiting) → p .request ≡ grown w → heard p e ≡ grown (through w x)
+  unfolding heard
+  heard-grown w q =
+      by-test (eqb (e .code) tick && eqb (p .port) P2)
+      (λ t. rw (t, counts-ticks, t, q) (grown-longer w))
+      (λ f. rw (f, counts-ticks, f, q, add-zero (w .ticks-in-P2)))
+
+  -- what it may yet take stays within what is due
+  in-due : (w : Waiting) → w .ticks + left p ≤ due (w .aips) → left (moveOf p e .next) + ticksOf e ≤ left p + 999 * aipsOf e
+      → through w x .ticks + left (moveOf p e .next) ≤ due (through w x .aips)
+  in-due w h f = rw (counts-ticks, counts-aips) (omega arith)
+
+  -- books and phy agree after the move
+  agree-moved : (l : Ledger) → Agrees p l → Stepping p e (moveOf p e) → Agrees (moveOf p e .next) (book l x)
+  unfolding book
+  agree-moved free a s =
+      by-tally (Agrees (moveOf p e .next) (book free x)) p e (moveOf p e) (s .tally)
+      (λ w _ _. absurd (false≢true (sym a ∙ w)))
+      (λ w _ _. absurd (false≢true (sym a ∙ w)))
+      (λ _ u t. rw (is-silent x (t .silent) (t .none), t .opens) (record { waits-too = u; request = t .request ∙ grown-begins x (wait-known (openOf e) (open-known e k (eqb-true (e .code) txOpen (both (eqb (e .code) txOpen) (eqb (moveOf p e .refusal) 0) (t .opens) .0)))); in-time = omega (arith, t .soon) }))
+      (λ _ u n. rw (is-silent x (n .silent) (n .none), n .opens) u)
+  agree-moved (waiting w) a s =
+      by-tally (Agrees (moveOf p e .next) (book (waiting w) x)) p e (moveOf p e) (s .tally)
+      (λ _ u t. rw (t .opens, is-silent x (t .silent) (t .none)) (record { waits-too = u; request = t .request ∙ heard-grown w (a .request); in-time = in-due w (a .in-time) (t .falls) }))
+      (λ _ u t. rw (t .opens, not-silent x (t .code), t .code, same (x .result .answered) (grown (through w x)) (t .carries ∙ heard-grown w (a .request))) u)
+      (λ f _ _. absurd (false≢true (sym f ∙ a .waits-too)))
+      (λ f _ _. absurd (false≢true (sym f ∙ a .waits-too)))
+  agree-moved broken a s = absurd a
+
+pub not-broken : (p : Phy) (l : Ledger) → Agrees p l → l ≡ broken → ⊥
+not-broken p free a q = let z : _≡_ {A = ℕ} 0 1 = cc in omega arith
+not-broken p (waiting w) a q = let z : _≡_ {A = ℕ} 0 1 = cc in omega arith
+not-broken p broken a q = a
+
+-- books and phy agree after any event: a refused one changes neither
+pub agree : (p : Phy) (e : Event) (l : Ledger) → validOf p ≡ true → Agrees p l → Agrees (stepOf p e .next) (book l (entry stepOf p e))
+agree p e l v a =
+    by-way (λ r. Agrees (r .next) (book l (record { event = e; result = r; port = p .port }))) p e
+    (λ f. absurd (false≢true (sym f ∙ v)))
+    (λ _ _. subst (Agrees p) (sym (refused-book l (record { event = e; result = refused p badEvent; port = p .port }) refl refl (not-broken p l a))) a)
+    (λ _ k s. agree-moved p e v k l a s)
+
+-- ---- Opens and answers
+
+not-zero : (n : ℕ) → isAnswer n ≡ true → not (eqb n 0) ≡ true
+not-zero n a = rw (code-not-zero n a)
+
+balanced-move : (p : Phy) (e : Event) → Stepping p e (moveOf p e)
+    → pick (accepts e (moveOf p e)) 1 0 + oneIfWaiting p ≡ pick (not (eqb (moveOf p e .answer) 0)) 1 0 + oneIfWaiting (moveOf p e .next)
+balanced-move p e s =
+    by-tally (pick (accepts e (moveOf p e)) 1 0 + oneIfWaiting p ≡ pick (not (eqb (moveOf p e .answer) 0)) 1 0 + oneIfWaiting (moveOf p e .next)) p e (moveOf p e) (s .tally)
+    (λ w u t. rw (t .opens, eq-eqb (moveOf p e .answer) 0 (t .silent), w, u))
+    (λ w u t. rw (t .opens, not-zero (moveOf p e .answer) (t .code), w, u))
+    (λ w u t. rw (t .opens, eq-eqb (moveOf p e .answer) 0 (t .silent), w, u))
+    (λ w u t. rw (t .opens, eq-eqb (moveOf p e .answer) 0 (t .silent), w, u))
+
+-- an acceptance begins a wait and an answer ends one
+pub balanced : (p : Phy) (e : Event) → validOf p ≡ true
+    → pick (accepted (entry stepOf p e)) 1 0 + oneIfWaiting p ≡ pick (answered (entry stepOf p e)) 1 0 + oneIfWaiting (stepOf p e .next)
+balanced p e v =
+    by-way (λ r. pick (accepts e r) 1 0 + oneIfWaiting p ≡ pick (not (eqb (r .answer) 0)) 1 0 + oneIfWaiting (r .next)) p e
+    (λ f. absurd (false≢true (sym f ∙ v)))
+    (λ _ _. rw (no-code txOpen (record { event = e; result = refused p badEvent; port = p .port }) refl))
+    (λ _ _ s. balanced-move p e s)
+
+-- a request that waits may yet take a tick
+pub time-left : (p : Phy) → validOf p ≡ true → 1 ≤ left p
+unfolding left
+time-left =
+    by-shape (λ p. 1 ≤ left p)
+    (λ f v. omega arith) (λ f v. omega arith) (λ f v. omega arith)
+    (λ f v. omega arith) (λ f v. omega arith) (λ f v. omega arith)
+    (λ f v. omega arith) (λ f v. omega arith) (λ f v. at-least-one (f .timer) (runs5 v)) (λ f v. omega arith)
+    (λ f v. at-least-one (f .timer) (runs5 v)) (λ f v. omega arith)
