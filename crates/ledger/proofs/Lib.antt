@@ -1,3 +1,4 @@
 pub mod OneEntry
 pub mod Demand
 pub mod AnsweredBy
+pub mod Tight

@@ -4,6 +4,7 @@ use mathlib.Core.Bool.{Bool, true, false}
 use mathlib.Core.List.{List, [], _∷_, _++_}
 use mathlib.Core.Logic.{_↔_, _⊎_}
 use mathlib.Core.Path.{_≡_}
+use lib.ListN.{replicate}
 use Rattle.table.specs.Choice.{pick}
 use Rattle.event.specs.Names.{txOpen, aipReceived, tick, hardReset, phyDisabled, SSP, slowRate, mostWait}
 use Rattle.event.specs.Table.{openOf, knownOf}
@@ -64,3 +65,33 @@ AnsweredBy =
     (es : List Event) (e : Event) (fs : List Event) → accepted (entry stepOf (phyAfter es) e) ≡ true
     → due (many heardAip (log stepOf (stepOf (phyAfter es) e .next) fs)) ≤ many ticked (log stepOf (stepOf (phyAfter es) e .next) fs)
     → AnsweredWithin (stepOf (phyAfter es) e .next) (openOf e) fs
+
+-- ---- for every k some sequence needs that many ticks
+
+-- an event with no argument
+abbrev pub plain : (code : ℕ) → Event
+plain code = record { code = code; first = 0; second = 0; third = 0; fourth = 0; fifth = 0; sixth = 0 }
+
+-- an Open to destination 5
+abbrev pub openToFive : Event
+openToFive = record { code = txOpen; first = 5; second = SSP; third = slowRate; fourth = 0; fifth = 0; sixth = 0 }
+
+-- an AIP k times, each after n ticks
+abbrev pub rounds : (n k : ℕ) → List Event
+rounds n zero = []
+rounds n (suc k) = replicate n (plain tick) ++ (plain aipReceived ∷ rounds n k)
+
+-- an Open, k rounds of n ticks and an AIP, and m ticks
+abbrev pub longWait : (n m k : ℕ) → List Event
+longWait n m k = openToFive ∷ (rounds n k ++ replicate m (plain tick))
+
+-- it still waits after one tick less than is due, and the next tick answers it
+pub record WaitsLong (es : List Event) (k : ℕ) : Type 0 where
+  pub waits-still : waits (phyAfter es .port) ≡ true
+  pub none-answered : many answered (logOf es) ≡ 0
+  pub aips : many heardAip (logOf es) ≡ k
+  pub ticks : many ticked (logOf es) + 1 ≡ due k
+  pub then-answered : answered (entry stepOf (phyAfter es) (plain tick)) ≡ true
+
+abbrev pub Tight : Type 0
+Tight = (k : ℕ) → WaitsLong (longWait 999 1999 k) k
