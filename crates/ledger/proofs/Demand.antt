@@ -37,7 +37,7 @@ held-by p free a w = absurd (false≢true (sym a ∙ w))
 held-by p (waiting x) a w = (x, refl, a .request)
 held-by p broken a w = absurd a
 
-rests-by : (p : Phy) (l : Ledger) → Agrees p l → waits (p .port) ≡ false → l ≡ free
+pub rests-by : (p : Phy) (l : Ledger) → Agrees p l → waits (p .port) ≡ false → l ≡ free
 rests-by p free a w = refl
 rests-by p (waiting x) a w = absurd (false≢true (sym w ∙ a .waits-too))
 rests-by p broken a w = absurd a
