@@ -1,23 +1,21 @@
 -- An answer comes where a request waits and then waits no more: by the four kinds of a step.
-use Prim.Native.Nat.{ℕ, _≤_}
-use mathlib.Core.Bool.{Bool, true, false, _&&_, _||_, false≢true}
+use Prim.Native.Nat.{ℕ}
+use mathlib.Core.Bool.{true, false, _&&_, false≢true}
 use mathlib.Core.Logic.{_↔_, _⊎_, inl, inr}
-use mathlib.Core.Path.{_≡_, refl, sym, ap, subst, _∙_}
-use native.Mathlib.Omega.{arith}
-use lib.Dec.{eqb, leb}
-use Rattle.table.specs.Choice.{pick}
+use mathlib.Core.Path.{_≡_, refl, sym, subst}
+use lib.Dec.{eqb}
 use Rattle.table.proofs.Laws.{by-test, by-pick}
-use Rattle.event.specs.Table.{knownOf, argumentRange, argumentsKnown, openKnown}
+use Rattle.event.specs.Table.{argumentRange, argumentsKnown, openKnown}
 use Rattle.event.specs.Names.{tick}
 use Rattle.event.specs.declared.Event.{Event}
 use Rattle.event.specs.declared.Open.{Open}
 use Rattle.phy.specs.Names.{P1, P2, P3}
 use Rattle.phy.specs.State.{noOpen, validOf}
-use Rattle.phy.specs.Step.{moveOf, stepOf}
+use Rattle.phy.specs.Step.{moveOf}
 use Rattle.phy.specs.declared.Phy.{Phy}
 use Rattle.phy.specs.declared.Stepped.{Stepped}
 use Rattle.laws.specs.Waiting.{waits, isAnswer, heard}
-use Rattle.laws.specs.Laws.{FromWaiting, AnswersComeFromWaiting, ArgumentsExactly}
+use Rattle.laws.specs.Laws.{AnswersComeFromWaiting, ArgumentsExactly}
 use Rattle.laws.proofs.Shapes.{by-shape}
 use Rattle.laws.proofs.OneStep.{Nothing, Taken, Kept, Answered, Tally, Stepping, longer-known}
 use Rattle.laws.proofs.ByEvent.{asked, asked4}
@@ -26,12 +24,12 @@ use Rattle.laws.proofs.Steps.{by-way}
 -- ---- the four kinds, by whether a request waits before and after
 
 pub by-tally :
-  (Q : Type 0) (p : Phy) (e : Event) (r : Stepped) → Tally p e r
-  → (waits (p .port) ≡ true → waits (r .next .port) ≡ true → Kept p e r → Q)
-  → (waits (p .port) ≡ true → waits (r .next .port) ≡ false → Answered p e r → Q)
-  → (waits (p .port) ≡ false → waits (r .next .port) ≡ true → Taken e r → Q)
-  → (waits (p .port) ≡ false → waits (r .next .port) ≡ false → Nothing e r → Q)
-  → Q
+    (Q : Type 0) (p : Phy) (e : Event) (r : Stepped) → Tally p e r
+    → (waits (p .port) ≡ true → waits (r .next .port) ≡ true → Kept p e r → Q)
+    → (waits (p .port) ≡ true → waits (r .next .port) ≡ false → Answered p e r → Q)
+    → (waits (p .port) ≡ false → waits (r .next .port) ≡ true → Taken e r → Q)
+    → (waits (p .port) ≡ false → waits (r .next .port) ≡ false → Nothing e r → Q)
+    → Q
 by-tally Q p e r t a b c d =
     by-test (waits (p .port))
     (λ w. by-test (waits (r .next .port)) (λ u. a w u (rw (w, u) at t)) (λ u. b w u (rw (w, u) at t)))

@@ -1,28 +1,25 @@
 -- The one-step law for each event: a line for each of the twelve shapes, in the order P1, P2, P3, P4.
-use Prim.Native.Nat.{ℕ, _+_, _-_, _*_, _≤_, _<_}
-use mathlib.Core.Bool.{Bool, true, false, _&&_, _||_, not, false≢true}
-use mathlib.Core.List.{[], _∷_}
-use mathlib.Core.Path.{_≡_, refl, sym, ap, subst, _∙_}
+use Prim.Native.Nat.{ℕ, _-_, _≤_}
+use mathlib.Core.Bool.{Bool, true, false, _&&_, _||_, false≢true}
+use mathlib.Core.Path.{_≡_, refl}
 use native.Mathlib.Omega.{arith}
-use borrow.Author.Tests.{eqb-true, leb-true, leb-false, le-leb}
-use lib.Dec.{eqb, leb, leb·zero}
-use Rattle.table.specs.Choice.{pick, rows}
+use borrow.Author.Tests.{eqb-true, leb-true}
+use lib.Dec.{eqb, leb}
 use Rattle.table.proofs.Laws.{by-test, by-pick, each}
-use Rattle.event.specs.Names.{STP, SMP, txOpen, tick, phyDisabled, mostAddress, mostWait, mostReject}
+use Rattle.event.specs.Names.{STP, SMP, txOpen, tick, phyDisabled, mostAddress, mostReject}
 use Rattle.event.specs.Table.{argumentRange, argumentsKnown, codeKnown, knownOf, openOf, openKnown}
 use Rattle.event.specs.declared.Event.{Event}
 use Rattle.event.specs.declared.Open.{Open}
 use Rattle.phy.specs.Names.{fullTimer, openTimeout, openBroken, portLayerRequest}
-use Rattle.phy.specs.State.{noOpen, idle, requesting, selected, connected, freshPhy, isNoOpen, validPair, validTimer, validRequest, validReason, validInbound, validConnection, validClosed, validOf, withTimer, withRequest}
-use Rattle.phy.specs.Moves.{refused, toIdle, openByLink, onTxOpen, onCancelOpen, onCloseConnection, onSmpBreak, onAccept, onOpenReceived, onOpenAccept, rejectAnswer, onOpenReject, onAip, onBreak, onClose, longer, aged, tickRequesting, tickClosing, tickBreaking, openedBy, accepted, tickSelected, onTickAged, onTick, onReset}
+use Rattle.phy.specs.State.{noOpen, idle, requesting, selected, connected, isNoOpen, validPair, validTimer, validRequest, validInbound, validOf, withTimer, withRequest}
+use Rattle.phy.specs.Moves.{toIdle, openByLink, onTxOpen, onCancelOpen, onCloseConnection, onSmpBreak, onAccept, onOpenReceived, onOpenAccept, rejectAnswer, onOpenReject, onAip, onBreak, onClose, longer, aged, tickRequesting, tickClosing, tickBreaking, openedBy, accepted, tickSelected, onTickAged, onTick, onReset}
 use Rattle.phy.specs.Step.{moveOf}
 use Rattle.phy.specs.declared.Settings.{Settings}
 use Rattle.phy.specs.declared.Phy.{Phy}
-use Rattle.phy.specs.declared.Stepped.{Stepped}
-use Rattle.laws.specs.Waiting.{waits, accepts, isAnswer, heard, ticksOf, aipsOf, left}
+use Rattle.laws.specs.Waiting.{waits, isAnswer, heard, left}
 use Rattle.laws.proofs.Tests.{both, either, at-number, in-range, in-use}
 use Rattle.laws.proofs.Shapes.{Fields, phyOf, Facts, by-shape}
-use Rattle.laws.proofs.OneStep.{Nothing, Taken, Kept, Answered, setsFlag, Stepping, valid-of, still, open-known, protocol-known, longer-known, timed, at-least-one, timed-down}
+use Rattle.laws.proofs.OneStep.{setsFlag, Stepping, valid-of, still, open-known, protocol-known, longer-known, timed, at-least-one, timed-down}
 
 -- an Open whose arguments are all zero is none
 is-no-open : (o : Open) → isNoOpen o ≡ true → o ≡ noOpen
@@ -192,8 +189,8 @@ on-close-connection a b c d g h =
     by-shape (λ p. Stepping p e (onCloseConnection p))
     (n 0 1 refl) (n 2 1 refl) (n 6 1 refl) (n 1 2 refl) (n 2 2 refl) (n 6 2 refl)
     (λ f v. by-pick (Stepping (phyOf 3 3 f) e) (f .closed)
-        (λ t. record { valid = idle-valid (f .settings); tally = record { silent = refl; none = refl; opens = refl }; flag = refl; reports = refl })
-        (λ t. record { valid = closing-valid (f .settings) (f .connection) (linked v); tally = record { silent = refl; none = refl; opens = refl }; flag = refl; reports = refl }))
+    (λ t. record { valid = idle-valid (f .settings); tally = record { silent = refl; none = refl; opens = refl }; flag = refl; reports = refl })
+    (λ t. record { valid = closing-valid (f .settings) (f .connection) (linked v); tally = record { silent = refl; none = refl; opens = refl }; flag = refl; reports = refl }))
     (n 4 3 refl) (n 5 3 refl) (n 6 3 refl) (n 5 4 refl) (n 6 4 refl)
 
 -- ---- 4, SMP Transmit Break
@@ -205,8 +202,8 @@ on-smp-break a b c d g h =
     by-shape (λ p. Stepping p e (onSmpBreak p))
     (n 0 1 refl) (n 2 1 refl) (n 6 1 refl) (n 1 2 refl) (n 2 2 refl) (n 6 2 refl)
     (λ f v. by-pick (Stepping (phyOf 3 3 f) e) (eqb (f .connection) SMP)
-        (λ t. record { valid = cutting-valid (f .settings) (f .connection) (linked v); tally = record { silent = refl; none = refl; opens = refl }; flag = refl; reports = refl })
-        (λ t. still e 6 refl refl (omega arith) 3 3 refl f v))
+    (λ t. record { valid = cutting-valid (f .settings) (f .connection) (linked v); tally = record { silent = refl; none = refl; opens = refl }; flag = refl; reports = refl })
+    (λ t. still e 6 refl refl (omega arith) 3 3 refl f v))
     (n 4 3 refl) (n 5 3 refl) (n 6 3 refl) (n 5 4 refl) (n 6 4 refl)
 
 -- ---- 7, OPEN received: in L0 and L1
@@ -375,32 +372,32 @@ on-tick a b c d g h =
     by-shape P
     (λ f v. record { valid = valid-of 0 1 f refl v; tally = record { silent = refl; none = refl; opens = refl }; flag = refl; reports = refl })
     (λ f v. by-pick (Stepping (phyOf 2 1 f) e) (f .settings .accept)
-        (λ _. record { valid = connected-valid (f .settings) (f .inbound) false (inbounds v); tally = record { silent = refl; none = refl; opens = refl }; flag = refl; reports = refl })
-        (λ _. record { valid = idle-valid (f .settings); tally = record { silent = refl; none = refl; opens = refl }; flag = refl; reports = refl }))
+    (λ _. record { valid = connected-valid (f .settings) (f .inbound) false (inbounds v); tally = record { silent = refl; none = refl; opens = refl }; flag = refl; reports = refl })
+    (λ _. record { valid = idle-valid (f .settings); tally = record { silent = refl; none = refl; opens = refl }; flag = refl; reports = refl }))
     (λ f v. record { valid = idle-valid (f .settings); tally = record { silent = refl; none = refl; opens = refl }; flag = refl; reports = refl })
     (λ f v. tick-requesting a b c d g h f v)
     (λ f v. by-pick (Stepping (phyOf 2 2 f) e) (f .settings .accept)
-        (λ _. record { valid = connected-valid (f .settings) (f .inbound) false (inbounds v); tally = record { code = opener (f .source) (longer (f .request) .destination); carries = refl; opens = refl }; flag = refl; reports = refl })
-        (λ _. record { valid = idle-valid (f .settings); tally = record { code = refl; carries = refl; opens = refl }; flag = refl; reports = refl }))
+    (λ _. record { valid = connected-valid (f .settings) (f .inbound) false (inbounds v); tally = record { code = opener (f .source) (longer (f .request) .destination); carries = refl; opens = refl }; flag = refl; reports = refl })
+    (λ _. record { valid = idle-valid (f .settings); tally = record { code = refl; carries = refl; opens = refl }; flag = refl; reports = refl }))
     (λ f v. record { valid = idle-valid (f .settings); tally = record { code = refl; carries = refl; opens = refl }; flag = refl; reports = refl })
     (λ f v. record { valid = valid-of 3 3 f refl v; tally = record { silent = refl; none = refl; opens = refl }; flag = refl; reports = refl })
     (λ f v. by-pick (Stepping (phyOf 4 3 f) e) (leb (f .timer) 1)
-        (λ _. record { valid = cutting-valid (f .settings) (f .connection) (linked v); tally = record { silent = refl; none = refl; opens = refl }; flag = refl; reports = refl })
-        (λ u. record { valid = counted-valid 4 3 f (f .timer - 1) refl (falling (f .timer) (runs4 v) u) v; tally = record { silent = refl; none = refl; opens = refl }; flag = refl; reports = refl }))
+    (λ _. record { valid = cutting-valid (f .settings) (f .connection) (linked v); tally = record { silent = refl; none = refl; opens = refl }; flag = refl; reports = refl })
+    (λ u. record { valid = counted-valid 4 3 f (f .timer - 1) refl (falling (f .timer) (runs4 v) u) v; tally = record { silent = refl; none = refl; opens = refl }; flag = refl; reports = refl }))
     (λ f v. by-pick (Stepping (phyOf 5 3 f) e) (leb (f .timer) 1)
-        (λ _. record { valid = idle-valid (f .settings); tally = record { silent = refl; none = refl; opens = refl }; flag = refl; reports = refl })
-        (λ u. record { valid = counted-valid 5 3 f (f .timer - 1) refl (falling (f .timer) (runs5 v) u) v; tally = record { silent = refl; none = refl; opens = refl }; flag = refl; reports = refl }))
+    (λ _. record { valid = idle-valid (f .settings); tally = record { silent = refl; none = refl; opens = refl }; flag = refl; reports = refl })
+    (λ u. record { valid = counted-valid 5 3 f (f .timer - 1) refl (falling (f .timer) (runs5 v) u) v; tally = record { silent = refl; none = refl; opens = refl }; flag = refl; reports = refl }))
     (λ f v. record { valid = idle-valid (f .settings); tally = record { silent = refl; none = refl; opens = refl }; flag = refl; reports = refl })
     (λ f v. by-pick (Stepping (phyOf 5 4 f) e) (leb (f .timer) 1)
-        (λ _. record { valid = idle-valid (f .settings); tally = record { code = reason5 v; carries = refl; opens = refl }; flag = refl; reports = refl })
-        (λ u. record { valid = counted-valid 5 4 f (f .timer - 1) refl (falling (f .timer) (runs5 v) u) v; tally = record { silent = refl; none = refl; opens = refl; request = refl; falls = omega (arith, at-least-one (f .timer) (runs5 v)) }; flag = refl; reports = refl }))
+    (λ _. record { valid = idle-valid (f .settings); tally = record { code = reason5 v; carries = refl; opens = refl }; flag = refl; reports = refl })
+    (λ u. record { valid = counted-valid 5 4 f (f .timer - 1) refl (falling (f .timer) (runs5 v) u) v; tally = record { silent = refl; none = refl; opens = refl; request = refl; falls = omega (arith, at-least-one (f .timer) (runs5 v)) }; flag = refl; reports = refl }))
     (λ f v. record { valid = idle-valid (f .settings); tally = record { code = reason6 v; carries = refl; opens = refl }; flag = refl; reports = refl })
 
 -- ---- any known event
 
 pub by-code :
-  (R : ℕ → Type 0) → R 1 → R 2 → R 3 → R 4 → R 5 → R 6 → R 7 → R 8 → R 9 → R 10 → R 11 → R 12 → R 13 → R 14 → R 15
-  → (code : ℕ) → codeKnown code ≡ true → R code
+    (R : ℕ → Type 0) → R 1 → R 2 → R 3 → R 4 → R 5 → R 6 → R 7 → R 8 → R 9 → R 10 → R 11 → R 12 → R 13 → R 14 → R 15
+    → (code : ℕ) → codeKnown code ≡ true → R code
 by-code R a b c d e f g h i j k l m n o code v =
     let q = both (leb txOpen code) (leb code phyDisabled) v in
     each (λ n. 1 ≤ n → R n) 16

@@ -1,26 +1,24 @@
 -- One step of a valid phy by a known event, at each of the twelve shapes: the one case analysis of the phy.
-use Prim.Native.Nat.{ℕ, _+_, _-_, _*_, _≤_, _<_}
-use mathlib.Core.Bool.{Bool, true, false, _&&_, _||_, not}
-use mathlib.Core.List.{[], _∷_}
-use mathlib.Core.Path.{_≡_, refl, sym, ap, subst, _∙_}
+use Prim.Native.Nat.{ℕ, _+_, _-_, _*_, _≤_}
+use mathlib.Core.Bool.{Bool, true, false, _&&_, _||_}
+use mathlib.Core.Path.{_≡_, refl, subst}
 use native.Mathlib.Omega.{arith}
-use borrow.Author.Tests.{eqb-true, leb-true, leb-false, le-leb}
+use borrow.Author.Tests.{leb-true, leb-false, le-leb}
 use lib.Dec.{eqb, leb, leb·zero}
-use Rattle.table.specs.Choice.{pick, rows}
-use Rattle.table.proofs.Laws.{by-test, by-pick, each}
-use Rattle.event.specs.Names.{STP, txOpen, tick, mostAddress, mostWait}
+use Rattle.table.specs.Choice.{pick}
+use Rattle.table.proofs.Laws.{by-test, by-pick}
+use Rattle.event.specs.Names.{STP, txOpen, tick, mostWait}
 use Rattle.event.specs.Table.{within, argumentRange, argumentsKnown, codeKnown, knownOf, openOf, openKnown}
 use Rattle.event.specs.declared.Event.{Event}
 use Rattle.event.specs.declared.Open.{Open}
-use Rattle.phy.specs.Names.{fullTimer, openTimeout, openBroken, portLayerRequest}
-use Rattle.phy.specs.State.{noOpen, idle, requesting, selected, connected, freshPhy, validPair, validTimer, validRequest, validReason, validInbound, validConnection, validClosed, validOf}
-use Rattle.phy.specs.Moves.{refused, toIdle, openByLink, onTxOpen, onCancelOpen, onCloseConnection, onSmpBreak, onAccept, onOpenReceived, onOpenAccept, rejectAnswer, onOpenReject, onAip, onBreak, onClose, longer, aged, tickRequesting, tickClosing, tickBreaking, openedBy, accepted, tickSelected, onTickAged, onTick, onReset}
-use Rattle.phy.specs.declared.Settings.{Settings}
+use Rattle.phy.specs.Names.{fullTimer}
+use Rattle.phy.specs.State.{noOpen, validPair, validOf}
+use Rattle.phy.specs.Moves.{refused, longer}
 use Rattle.phy.specs.declared.Phy.{Phy}
 use Rattle.phy.specs.declared.Stepped.{Stepped}
 use Rattle.laws.specs.Waiting.{waits, accepts, isAnswer, heard, ticksOf, aipsOf, left}
-use Rattle.laws.proofs.Tests.{both, either, in-range, in-use}
-use Rattle.laws.proofs.Shapes.{Fields, phyOf, Facts, by-shape}
+use Rattle.laws.proofs.Tests.{both}
+use Rattle.laws.proofs.Shapes.{Fields, phyOf, Facts}
 
 -- ---- what a step does to a waiting request
 

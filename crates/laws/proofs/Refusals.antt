@@ -1,17 +1,17 @@
 -- Each refusal exactly when the paper's table says: what a known event is judged to be, at each of the fifteen.
 use Prim.Native.Nat.{ℕ}
-use mathlib.Core.Bool.{Bool, true, false, false≢true}
+use mathlib.Core.Bool.{true, false}
 use mathlib.Core.List.{[], _∷_}
 use mathlib.Core.Logic.{_⊎_, inl, inr, ⊎-elim}
-use mathlib.Core.Path.{_≡_, refl, sym, subst, _∙_}
+use mathlib.Core.Path.{_≡_, refl, sym, subst}
 use native.Mathlib.Omega.{arith}
-use borrow.Author.Tests.{eqb-true, eqb-false, eq-eqb, ne-eqb}
+use borrow.Author.Tests.{eqb-true, eqb-false}
 use lib.Dec.{eqb, leb}
 use Rattle.table.specs.Choice.{_⇒_, rows}
 use Rattle.table.specs.Refusals.{badState, badEvent, busy, nothingPending, notConnected, wrongProtocol}
-use Rattle.table.proofs.Laws.{by-test, by-pick, every}
+use Rattle.table.proofs.Laws.{by-pick, every}
 use Rattle.event.specs.Names.{SMP}
-use Rattle.event.specs.Table.{codeKnown, knownOf, openOf}
+use Rattle.event.specs.Table.{knownOf, openOf}
 use Rattle.event.specs.declared.Event.{Event}
 use Rattle.phy.specs.Names.{L3, P1, P2}
 use Rattle.phy.specs.State.{validOf}
@@ -20,7 +20,6 @@ use Rattle.phy.specs.Step.{moveOf, stepOf}
 use Rattle.phy.specs.declared.Phy.{Phy}
 use Rattle.phy.specs.declared.Stepped.{Stepped}
 use Rattle.laws.specs.Laws.{Judged, BadStateExactly, BadEventExactly, BusyExactly, NothingPendingExactly, NotConnectedExactly, WrongProtocolExactly, Free, TakenExactly, RefusedKeeps}
-use Rattle.laws.proofs.OneStep.{Stepping}
 use Rattle.laws.proofs.ByEvent.{event, by-code, code-known}
 use Rattle.laws.proofs.Steps.{by-way}
 
@@ -36,8 +35,7 @@ idle-taken p sent = every Taken (p .port) (idleRows p sent) (refl, (refl, (refl,
 tick-taken : (p : Phy) → Taken (onTickAged p)
 unfolding onTickAged tickRequesting tickClosing tickBreaking tickSelected accepted
 tick-taken p =
-    every Taken (p .link) (tickRows p)
-    (
+    every Taken (p .link) (tickRows p) (
       by-pick Taken (leb (p .timer) 1) (λ _. refl) (λ _. refl),
       (
         by-pick Taken (leb (p .timer) 1) (λ _. refl) (λ _. refl),

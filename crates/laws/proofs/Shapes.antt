@@ -1,17 +1,10 @@
 -- Every valid phy has one of twelve shapes, told by its link state; and a phy of a shape is valid.
-use Prim.Native.Nat.{ℕ, _≤_}
-use mathlib.Core.Bool.{Bool, true, false, _&&_, _||_, not}
-use mathlib.Core.Path.{_≡_, refl, sym, subst}
-use mathlib.Core.Logic.{_⊎_, inl, inr}
-use borrow.Author.Tests.{eqb-true, leb-true}
-use lib.Dec.{eqb, leb}
-use Rattle.table.specs.Choice.{rows, _⇒_}
-use mathlib.Core.List.{[], _∷_}
-use Rattle.event.specs.Names.{STP, mostAddress}
-use Rattle.event.specs.Table.{openKnown}
+use Prim.Native.Nat.{ℕ}
+use mathlib.Core.Bool.{Bool, true}
+use mathlib.Core.Path.{_≡_}
+use lib.Dec.{eqb}
 use Rattle.event.specs.declared.Open.{Open}
-use Rattle.phy.specs.Names.{L0, L1, L2, L3, L4, L5, L6, P1, P2, P3, P4, openTimeout, openBroken, portLayerRequest, fullTimer}
-use Rattle.phy.specs.State.{noOpen, idle, requesting, selected, connected, validPair, validTimer, isNoOpen, validRequest, validReason, validInbound, validConnection, validClosed, validOf}
+use Rattle.phy.specs.State.{validPair, validTimer, validRequest, validReason, validInbound, validConnection, validClosed, validOf}
 use Rattle.phy.specs.declared.Settings.{Settings}
 use Rattle.phy.specs.declared.Phy.{Phy}
 use Rattle.laws.proofs.Tests.{both, either, at-number}
@@ -19,9 +12,9 @@ use Rattle.laws.proofs.Tests.{both, either, at-number}
 -- ---- the twelve pairs of link and port
 
 pub by-pair :
-  (Q : ℕ → ℕ → Type 0) (link port : ℕ) → validPair link port ≡ true
-  → Q 0 1 → Q 2 1 → Q 6 1 → Q 1 2 → Q 2 2 → Q 6 2 → Q 3 3 → Q 4 3 → Q 5 3 → Q 6 3 → Q 5 4 → Q 6 4
-  → Q link port
+    (Q : ℕ → ℕ → Type 0) (link port : ℕ) → validPair link port ≡ true
+    → Q 0 1 → Q 2 1 → Q 6 1 → Q 1 2 → Q 2 2 → Q 6 2 → Q 3 3 → Q 4 3 → Q 5 3 → Q 6 3 → Q 5 4 → Q 6 4
+    → Q link port
 by-pair Q link port v a b c d e f g h i j k l =
     let at : (m n : ℕ) → eqb link m ≡ true → eqb port n ≡ true → Q m n → Q link port =
     λ m n x y q. at-number (λ s. Q s port) link m x (at-number (λ s. Q m s) port n y q) in
@@ -72,12 +65,12 @@ tests p v =
 
 -- what holds of each of the twelve shapes holds of every valid phy
 pub by-shape :
-  (Q : Phy → Type 0)
-  → ((f : Fields) → Facts 0 1 f → Q (phyOf 0 1 f)) → ((f : Fields) → Facts 2 1 f → Q (phyOf 2 1 f)) → ((f : Fields) → Facts 6 1 f → Q (phyOf 6 1 f))
-  → ((f : Fields) → Facts 1 2 f → Q (phyOf 1 2 f)) → ((f : Fields) → Facts 2 2 f → Q (phyOf 2 2 f)) → ((f : Fields) → Facts 6 2 f → Q (phyOf 6 2 f))
-  → ((f : Fields) → Facts 3 3 f → Q (phyOf 3 3 f)) → ((f : Fields) → Facts 4 3 f → Q (phyOf 4 3 f)) → ((f : Fields) → Facts 5 3 f → Q (phyOf 5 3 f)) → ((f : Fields) → Facts 6 3 f → Q (phyOf 6 3 f))
-  → ((f : Fields) → Facts 5 4 f → Q (phyOf 5 4 f)) → ((f : Fields) → Facts 6 4 f → Q (phyOf 6 4 f))
-  → (p : Phy) → validOf p ≡ true → Q p
+    (Q : Phy → Type 0)
+    → ((f : Fields) → Facts 0 1 f → Q (phyOf 0 1 f)) → ((f : Fields) → Facts 2 1 f → Q (phyOf 2 1 f)) → ((f : Fields) → Facts 6 1 f → Q (phyOf 6 1 f))
+    → ((f : Fields) → Facts 1 2 f → Q (phyOf 1 2 f)) → ((f : Fields) → Facts 2 2 f → Q (phyOf 2 2 f)) → ((f : Fields) → Facts 6 2 f → Q (phyOf 6 2 f))
+    → ((f : Fields) → Facts 3 3 f → Q (phyOf 3 3 f)) → ((f : Fields) → Facts 4 3 f → Q (phyOf 4 3 f)) → ((f : Fields) → Facts 5 3 f → Q (phyOf 5 3 f)) → ((f : Fields) → Facts 6 3 f → Q (phyOf 6 3 f))
+    → ((f : Fields) → Facts 5 4 f → Q (phyOf 5 4 f)) → ((f : Fields) → Facts 6 4 f → Q (phyOf 6 4 f))
+    → (p : Phy) → validOf p ≡ true → Q p
 by-shape Q a b c d e f g h i j k l p v =
     let t = tests p v in
     let rest : Fields = record { timer = p .timer; request = p .request; reason = p .reason; source = p .source; inbound = p .inbound; connection = p .connection; closed = p .closed; settings = p .settings } in

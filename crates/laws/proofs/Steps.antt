@@ -1,16 +1,15 @@
 -- Any step goes one of three ways: the phy is refused, the event is refused, or the one-step law holds.
-use Prim.Native.Nat.{ℕ, _≤_}
-use mathlib.Core.Bool.{Bool, true, false, _&&_, _||_}
-use mathlib.Core.Path.{_≡_, refl, sym}
+use Prim.Native.Nat.{_≤_}
+use mathlib.Core.Bool.{true, false, _&&_}
+use mathlib.Core.Path.{_≡_, refl}
 use native.Mathlib.Omega.{arith}
 use borrow.Author.Tests.{leb-true}
-use lib.Dec.{eqb, leb}
-use Rattle.table.specs.Choice.{pick}
+use lib.Dec.{leb}
 use Rattle.table.specs.Refusals.{badState, badEvent}
-use Rattle.table.proofs.Laws.{by-test, by-pick}
+use Rattle.table.proofs.Laws.{by-pick}
 use Rattle.event.specs.Table.{knownOf}
 use Rattle.event.specs.declared.Event.{Event}
-use Rattle.phy.specs.State.{validOf, validRequest, validInbound, freshPhy}
+use Rattle.phy.specs.State.{validOf, validRequest, validInbound}
 use Rattle.phy.specs.Moves.{refused}
 use Rattle.phy.specs.Step.{moveOf, stepOf}
 use Rattle.phy.specs.declared.Phy.{Phy}
@@ -21,11 +20,11 @@ use Rattle.laws.proofs.OneStep.{Stepping}
 use Rattle.laws.proofs.ByEvent.{one-step}
 
 pub by-way :
-  (P : Stepped → Type 0) (p : Phy) (e : Event)
-  → (validOf p ≡ false → P (refused p badState))
-  → (validOf p ≡ true → knownOf e ≡ false → P (refused p badEvent))
-  → (validOf p ≡ true → knownOf e ≡ true → Stepping p e (moveOf p e) → P (moveOf p e))
-  → P (stepOf p e)
+    (P : Stepped → Type 0) (p : Phy) (e : Event)
+    → (validOf p ≡ false → P (refused p badState))
+    → (validOf p ≡ true → knownOf e ≡ false → P (refused p badEvent))
+    → (validOf p ≡ true → knownOf e ≡ true → Stepping p e (moveOf p e) → P (moveOf p e))
+    → P (stepOf p e)
 unfolding stepOf
 by-way P p e a b c =
     by-pick P (validOf p)

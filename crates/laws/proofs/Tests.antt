@@ -1,6 +1,6 @@
 -- Small facts on tests: what a conjunction, a disjunction and a field's rule say.
 use Prim.Native.Nat.{ℕ}
-use mathlib.Core.Bool.{Bool, true, false, _&&_, _||_, not, false≢true}
+use mathlib.Core.Bool.{Bool, true, false, _&&_, _||_, false≢true}
 use mathlib.Core.Path.{_≡_, refl, sym, subst}
 use borrow.Author.Tests.{eqb-true}
 use lib.Dec.{eqb}

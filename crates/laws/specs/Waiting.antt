@@ -1,9 +1,9 @@
 -- Words about one step of a phy: whether a request waits, what an answer carries, how long it may yet take.
 use Prim.Native.Nat.{ℕ, _+_}
 use mathlib.Core.Bool.{Bool, _&&_, _||_}
-use mathlib.Core.List.{List, [], _∷_}
+use mathlib.Core.List.{[], _∷_}
 use lib.Dec.{eqb}
-use Rattle.table.specs.Choice.{pick, Row, _⇒_, rows}
+use Rattle.table.specs.Choice.{pick, _⇒_, rows}
 use Rattle.event.specs.Names.{txOpen, aipReceived, tick}
 use Rattle.event.specs.declared.Event.{Event}
 use Rattle.event.specs.declared.Open.{Open}

@@ -1,15 +1,13 @@
 -- Once the ticks are due the answer has been given: until it is, the books say that they are not.
-use Prim.Native.Nat.{ℕ, zero, suc, _+_, _*_, _≤_, _<_, min}
-use mathlib.Core.Bool.{Bool, true, false, _&&_, not, false≢true}
+use Prim.Native.Nat.{ℕ, _+_, _≤_}
+use mathlib.Core.Bool.{true, false, _&&_}
 use mathlib.Core.List.{List, [], _∷_, _++_}
-use mathlib.Core.Path.{_≡_, refl, sym, ap, subst, _∙_}
-use native.Mathlib.Nat.{add-zero, zero-add, add-assoc}
+use mathlib.Core.Path.{_≡_, refl, ap, subst, _∙_}
 use native.Mathlib.Omega.{arith}
 use borrow.Author.Tests.{eqb-true, eq-eqb}
 use lib.Dec.{eqb}
 use Rattle.table.specs.Choice.{pick}
 use Rattle.table.proofs.Laws.{by-test}
-use Rattle.event.specs.Names.{txOpen}
 use Rattle.event.specs.Table.{openOf}
 use Rattle.event.specs.declared.Event.{Event}
 use Rattle.event.specs.declared.Open.{Open}
@@ -21,7 +19,7 @@ use Rattle.laws.proofs.Tests.{both}
 use Rattle.laws.proofs.Steps.{fresh-valid, stays-valid}
 use Rattle.ledger.specs.Log.{Entry, entry, log, after, accepted, answered, many, ticked, tickedInP2, heardAip}
 use Rattle.ledger.specs.Ledger.{due, Waiting, Ledger, free, waiting, broken, grown, sameOpen, begins, through, silent, answers, book, books}
-use Rattle.ledger.specs.Demand.{phyAfter, AnsweredWithin, AnsweredBy}
+use Rattle.ledger.specs.Demand.{phyAfter, AnsweredBy}
 use Rattle.ledger.proofs.OneEntry.{Holds, Agrees, not-broken, agree}
 use Rattle.ledger.proofs.Demand.{follow, in-time-by}
 
@@ -63,8 +61,8 @@ record Found (p : Phy) (w : Waiting) (fs : List Event) : Type 0 where
   none-accepted : many accepted (log stepOf p before) ≡ 0
   code : isAnswer (stepOf (after stepOf p before) last .answer) ≡ true
   carries :
-    stepOf (after stepOf p before) last .answered
-    ≡ grown (record { open-as-accepted = w .open-as-accepted; ticks-in-P2 = w .ticks-in-P2 + (many tickedInP2 (log stepOf p before) + pick (tickedInP2 (entry stepOf (after stepOf p before) last)) 1 0); ticks = 0; aips = 0 })
+      stepOf (after stepOf p before) last .answered
+      ≡ grown (record { open-as-accepted = w .open-as-accepted; ticks-in-P2 = w .ticks-in-P2 + (many tickedInP2 (log stepOf p before) + pick (tickedInP2 (entry stepOf (after stepOf p before) last)) 1 0); ticks = 0; aips = 0 })
 
 -- the accepted Open after n ticks in P2
 abbrev by-ticks : Open → ℕ → Open
@@ -73,7 +71,13 @@ by-ticks o n = grown (record { open-as-accepted = o; ticks-in-P2 = n; ticks = 0;
 stop-here : (p : Phy) (w : Waiting) (e : Event) (fs : List Event) → isAnswer (stepOf p e .answer) ≡ true → stepOf p e .answered ≡ grown (through w (entry stepOf p e)) → Found p w (e ∷ fs)
 stop-here p w e fs c r =
     record {
-      before = []; last = e; rest = fs; whole = refl; none-answered = refl; none-accepted = refl; code = c;
+      before = [];
+      last = e;
+      rest = fs;
+      whole = refl;
+      none-answered = refl;
+      none-accepted = refl;
+      code = c;
       carries = r ∙ ap (by-ticks (w .open-as-accepted)) (omega arith);
     }
 
@@ -81,7 +85,9 @@ go-on : (p : Phy) (w : Waiting) (e : Event) (fs : List Event) → accepted (entr
     → Found (stepOf p e .next) (through w (entry stepOf p e)) fs → Found p w (e ∷ fs)
 go-on p w e fs a z f =
     record {
-      before = e ∷ f .before; last = f .last; rest = f .rest;
+      before = e ∷ f .before;
+      last = f .last;
+      rest = f .rest;
       whole = ap (λ (es : List Event). e ∷ es) (f .whole);
       none-answered = rw (eq-eqb (stepOf p e .answer) 0 z) (omega (arith, f .none-answered));
       none-accepted = rw a (omega (arith, f .none-accepted));
@@ -126,6 +132,12 @@ answered-by es e fs t d =
     let h : Holds (stepOf p e .next) (begins x) = subst (Agrees (stepOf p e .next)) (begun p e t l (not-broken (stepOf p e .next) (book l x) a)) a in
     let g = find (stepOf p e .next) (begins x) fs (stays-valid p e (f .0)) h (omega arith) in
     record {
-      before = g .before; last = g .last; rest = g .rest; whole = g .whole; none-answered = g .none-answered; none-accepted = g .none-accepted; code = g .code;
+      before = g .before;
+      last = g .last;
+      rest = g .rest;
+      whole = g .whole;
+      none-answered = g .none-answered;
+      none-accepted = g .none-accepted;
+      code = g .code;
       carries = g .carries ∙ ap (by-ticks (openOf e)) (omega arith);
     }

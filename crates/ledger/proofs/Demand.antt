@@ -1,19 +1,18 @@
 -- Demand 3 for every list of events: the one-entry law, carried along the list.
-use Prim.Native.Nat.{ℕ, zero, suc, _+_, _*_, _≤_, _<_, min}
-use mathlib.Core.Bool.{Bool, true, false, false≢true}
-use mathlib.Core.List.{List, [], _∷_, _++_}
-use mathlib.Core.Path.{_≡_, refl, sym, ap, subst, _∙_}
+use Prim.Native.Nat.{_+_, _<_}
+use mathlib.Core.Bool.{true, false, false≢true}
+use mathlib.Core.List.{List, [], _∷_}
+use mathlib.Core.Path.{_≡_, refl, sym, subst, _∙_}
 use native.Mathlib.Omega.{arith}
-use Rattle.table.specs.Choice.{pick}
 use Rattle.event.specs.declared.Event.{Event}
 use Rattle.phy.specs.State.{validOf, freshPhy}
 use Rattle.phy.specs.Step.{stepOf}
 use Rattle.phy.specs.declared.Phy.{Phy}
-use Rattle.laws.specs.Waiting.{waits, left}
+use Rattle.laws.specs.Waiting.{waits}
 use Rattle.laws.proofs.Steps.{fresh-valid, stays-valid}
-use Rattle.ledger.specs.Log.{Entry, entry, log, after, accepted, answered, many}
+use Rattle.ledger.specs.Log.{entry, log, after, accepted, answered, many}
 use Rattle.ledger.specs.Ledger.{due, Waiting, Ledger, free, waiting, broken, grown, book, books}
-use Rattle.ledger.specs.Demand.{oneIfWaiting, booksOf, phyAfter, logOf, Lawful, Demand3}
+use Rattle.ledger.specs.Demand.{oneIfWaiting, booksOf, phyAfter, Demand3}
 use Rattle.ledger.proofs.OneEntry.{Holds, Agrees, not-broken, agree, balanced, time-left}
 
 -- valid and in agreement after any events

@@ -1,7 +1,6 @@
 -- One entry: a valid phy and books that agree with it agree after any event.
-use Prim.Native.Nat.{ℕ, zero, suc, _+_, _*_, _≤_, _<_, min}
+use Prim.Native.Nat.{ℕ, _+_, _*_, _≤_, min}
 use mathlib.Core.Bool.{Bool, true, false, _&&_, not, false≢true}
-use mathlib.Core.List.{List, [], _∷_}
 use mathlib.Core.Path.{_≡_, refl, sym, ap, subst, _∙_}
 use native.Mathlib.Nat.{add-zero}
 use native.Mathlib.Omega.{arith}
@@ -21,17 +20,17 @@ use Rattle.phy.specs.Step.{moveOf, stepOf}
 use Rattle.phy.specs.declared.Phy.{Phy}
 use Rattle.phy.specs.declared.Stepped.{Stepped}
 use Rattle.laws.specs.Waiting.{waits, accepts, isAnswer, heard, ticksOf, aipsOf, left}
-use Rattle.laws.specs.Laws.{Judged, Free}
+use Rattle.laws.specs.Laws.{Judged}
 use Rattle.laws.proofs.Refusals.{moves, taken-exactly}
-use Rattle.laws.proofs.Shapes.{Fields, Facts, by-shape}
-use Rattle.laws.proofs.OneStep.{Nothing, Taken, Kept, Answered, Stepping, wait-known, open-known, at-least-one}
+use Rattle.laws.proofs.Shapes.{by-shape}
+use Rattle.laws.proofs.OneStep.{Stepping, wait-known, open-known, at-least-one}
 use Rattle.laws.proofs.ByEvent.{runs5}
 use Rattle.laws.proofs.Tests.{both}
 use Rattle.laws.proofs.Steps.{by-way}
 use Rattle.laws.proofs.Answers.{by-tally}
 use Rattle.ledger.specs.Log.{Entry, entry, taken, accepted, answered, ticked, tickedInP2, heardAip}
 use Rattle.ledger.specs.Demand.{oneIfWaiting}
-use Rattle.ledger.specs.Ledger.{due, Waiting, Ledger, free, waiting, broken, grown, sameOpen, begins, through, silent, answers, book}
+use Rattle.ledger.specs.Ledger.{due, Waiting, Ledger, free, waiting, broken, grown, sameOpen, begins, through, silent, book}
 
 -- the books of a phy: free where no request waits; else its request is the accepted Open, grown, and what it may yet take is within what is due
 pub record Holds (p : Phy) (w : Waiting) : Type 0 where

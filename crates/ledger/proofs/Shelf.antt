@@ -1,31 +1,26 @@
 -- What a shelf engineer would ask, from demand 3.
-use Prim.Native.Nat.{ℕ, _+_, _≤_}
-use mathlib.Core.Bool.{Bool, true, false, not, false≢true}
+use mathlib.Core.Bool.{true, false, false≢true}
 use mathlib.Core.List.{List, [], _∷_, _++_}
 use mathlib.Core.Logic.{_⊎_, ⊎-elim}
-use mathlib.Core.Path.{_≡_, refl, sym, ap, subst, _∙_}
+use mathlib.Core.Path.{_≡_, refl, ap, _∙_}
 use native.Mathlib.Omega.{arith}
-use borrow.Author.Tests.{eqb-true, ne-eqb}
+use borrow.Author.Tests.{ne-eqb}
 use lib.Dec.{eqb}
-use Rattle.table.specs.Choice.{pick}
 use Rattle.table.proofs.Laws.{by-test, every}
 use Rattle.event.specs.Names.{hardReset, phyDisabled}
-use Rattle.event.specs.Table.{knownOf}
 use Rattle.event.specs.declared.Event.{Event}
-use Rattle.phy.specs.State.{validOf, freshPhy, noOpen}
-use Rattle.phy.specs.Moves.{refused, resetRows, onReset}
+use Rattle.phy.specs.State.{freshPhy}
+use Rattle.phy.specs.Moves.{resetRows, onReset}
 use Rattle.phy.specs.Step.{moveOf, stepOf}
 use Rattle.phy.specs.declared.Phy.{Phy}
-use Rattle.phy.specs.declared.Stepped.{Stepped}
 use Rattle.laws.specs.Waiting.{waits}
-use Rattle.laws.specs.Laws.{Judged}
-use Rattle.laws.proofs.Steps.{fresh-valid, stays-valid}
+use Rattle.laws.proofs.Steps.{fresh-valid}
 use Rattle.laws.proofs.Refusals.{moves, refused-keeps}
-use Rattle.ledger.specs.Log.{Entry, entry, log, after, accepted, answered, many}
-use Rattle.ledger.specs.Ledger.{Ledger, free, waiting, broken, sameOpen, through, silent, answers, book, books}
-use Rattle.ledger.specs.Demand.{logOf, phyAfter, booksOf}
+use Rattle.ledger.specs.Log.{Entry, entry, accepted, answered, many}
+use Rattle.ledger.specs.Ledger.{Ledger, free, waiting, broken, through, silent, answers, book, books}
+use Rattle.ledger.specs.Demand.{phyAfter, booksOf}
 use Rattle.ledger.specs.Shelf.{NoHang, AcceptedBetween, RefusedLeaves, ResetFrees}
-use Rattle.ledger.proofs.OneEntry.{Agrees, not-broken, agree, refused-book}
+use Rattle.ledger.proofs.OneEntry.{not-broken, agree, refused-book}
 use Rattle.ledger.proofs.Demand.{follow, rests-by, demand3}
 use Rattle.ledger.proofs.AnsweredBy.{answered-by}
 

@@ -1,12 +1,11 @@
 -- For every k a sequence that waits until its last due tick: each AIP comes when the timer has one tick left.
 use Prim.Native.Nat.{ℕ, zero, suc, _+_, _-_, _*_, _≤_, _<_}
-use mathlib.Core.Bool.{Bool, true, false, _&&_, not}
+use mathlib.Core.Bool.{true, false}
 use mathlib.Core.List.{List, [], _∷_, _++_, append-assoc, append-nil}
 use mathlib.Core.Path.{_≡_, refl, sym, ap, subst, _∙_}
 use native.Mathlib.Nat.{zero-add, add-zero, zero-mul, suc-mul}
 use native.Mathlib.Omega.{arith}
 use borrow.Author.Tests.{lt-leb, le-leb}
-use lib.Dec.{eqb, leb}
 use lib.ListN.{replicate, replicate-append-replicate}
 use Rattle.table.specs.Choice.{pick}
 use Rattle.event.specs.Names.{tick, aipReceived}
@@ -22,9 +21,8 @@ use Rattle.phy.specs.declared.Phy.{Phy}
 use Rattle.phy.specs.declared.Stepped.{Stepped}
 use Rattle.laws.specs.Waiting.{waits}
 use Rattle.laws.proofs.OneStep.{timed, longer-known}
-use Rattle.ledger.specs.Log.{Entry, entry, log, after, answered, many, ticked, heardAip}
-use Rattle.ledger.specs.Ledger.{due}
-use Rattle.ledger.specs.Demand.{plain, openToFive, rounds, longWait, WaitsLong, Tight, phyAfter, logOf}
+use Rattle.ledger.specs.Log.{entry, log, after, answered, many, ticked, heardAip}
+use Rattle.ledger.specs.Demand.{plain, openToFive, rounds, longWait, WaitsLong, Tight}
 
 -- ---- a passage from a phy to a phy over events: its ticks and AIPs, and no answer
 

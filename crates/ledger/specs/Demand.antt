@@ -1,13 +1,12 @@
 -- Demand 3, over every list of events from a fresh phy, refused events and unknown codes among them.
-use Prim.Native.Nat.{ℕ, zero, suc, _+_, _≤_, _<_, min}
-use mathlib.Core.Bool.{Bool, true, false}
+use Prim.Native.Nat.{ℕ, zero, suc, _+_, _≤_, _<_}
+use mathlib.Core.Bool.{true, false}
 use mathlib.Core.List.{List, [], _∷_, _++_}
-use mathlib.Core.Logic.{_↔_, _⊎_}
 use mathlib.Core.Path.{_≡_}
 use lib.ListN.{replicate}
 use Rattle.table.specs.Choice.{pick}
-use Rattle.event.specs.Names.{txOpen, aipReceived, tick, hardReset, phyDisabled, SSP, slowRate, mostWait}
-use Rattle.event.specs.Table.{openOf, knownOf}
+use Rattle.event.specs.Names.{txOpen, aipReceived, tick, SSP, slowRate}
+use Rattle.event.specs.Table.{openOf}
 use Rattle.event.specs.declared.Event.{Event}
 use Rattle.event.specs.declared.Open.{Open}
 use Rattle.phy.specs.State.{freshPhy}
@@ -15,7 +14,7 @@ use Rattle.phy.specs.Step.{stepOf}
 use Rattle.phy.specs.declared.Phy.{Phy}
 use Rattle.laws.specs.Waiting.{waits, isAnswer}
 use Rattle.ledger.specs.Log.{Entry, entry, log, after, accepted, answered, many, ticked, tickedInP2, heardAip}
-use Rattle.ledger.specs.Ledger.{due, Waiting, Ledger, free, waiting, broken, grown, book, books}
+use Rattle.ledger.specs.Ledger.{due, Waiting, Ledger, free, waiting, broken, grown, books}
 
 -- our own phy, from fresh
 abbrev pub logOf : List Event → List Entry
@@ -56,8 +55,8 @@ pub record AnsweredWithin (p : Phy) (o : Open) (fs : List Event) : Type 0 where
   pub none-accepted : many accepted (log stepOf p before) ≡ 0
   pub code : isAnswer (stepOf (after stepOf p before) last .answer) ≡ true
   pub carries :
-    stepOf (after stepOf p before) last .answered
-    ≡ grown (record { open-as-accepted = o; ticks-in-P2 = many tickedInP2 (log stepOf p before) + pick (tickedInP2 (entry stepOf (after stepOf p before) last)) 1 0; ticks = 0; aips = 0 })
+      stepOf (after stepOf p before) last .answered
+      ≡ grown (record { open-as-accepted = o; ticks-in-P2 = many tickedInP2 (log stepOf p before) + pick (tickedInP2 (entry stepOf (after stepOf p before) last)) 1 0; ticks = 0; aips = 0 })
 
 -- once as many ticks have come since an acceptance as are due for the AIPs heard since, the answer has been given
 abbrev pub AnsweredBy : Type 0

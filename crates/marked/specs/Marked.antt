@@ -1,0 +1,121 @@
+-- The marked cases M1 to M12, as one list: what the definitions give beside what the paper says.
+use Prim.Native.Nat.{ℕ, _+_}
+use mathlib.Core.List.{List, [], _∷_, _++_, map}
+use mathlib.Core.Path.{_≡_}
+use lib.ListN.{replicate}
+use Rattle.table.specs.Choice.{pick}
+use Rattle.table.specs.Refusals.{busy, overlong}
+use Rattle.number.specs.Reading.{Told, value, refused, readNumber}
+use Rattle.number.specs.Writing.{numberBytes}
+use Rattle.dws.specs.Names.{syncAcquired, acquireSync, invalid, dataDword, primitive}
+use Rattle.dws.specs.Laws.{run}
+use Rattle.event.specs.Names.{SSP, slowRate, txOpen, cancelOpen, acceptOpens, openReceived, aipReceived, breakReceived, tick}
+use Rattle.event.specs.declared.Event.{Event}
+use Rattle.phy.specs.Names.{collided, openedByDestination, openedByOther, openTimeout, portLayerRequest}
+use Rattle.ledger.specs.Log.{Entry, answered, ticked}
+use Rattle.ledger.specs.Demand.{plain, logOf}
+
+-- a case: its number, what the definitions give, what the paper says
+pub record Case : Type 0 where
+  pub number : ℕ
+  pub given : List ℕ
+  pub said : List ℕ
+
+-- ---- events
+
+-- a Tx Open to a destination, its wait 0
+abbrev pub openTo : ℕ → Event
+openTo destination = record { code = txOpen; first = destination; second = SSP; third = slowRate; fourth = 0; fifth = 0; sixth = 0 }
+
+-- an OPEN received from a source
+abbrev pub openFrom : ℕ → Event
+openFrom source = record { code = openReceived; first = source; second = SSP; third = 0; fourth = 0; fifth = 0; sixth = 0 }
+
+abbrev pub ticks : ℕ → List Event
+ticks n = replicate n (plain tick)
+
+-- ---- what is read off a log
+
+-- the code and the wait of each answer
+abbrev pub answersIn : List Entry → List ℕ
+answersIn [] = []
+answersIn (x ∷ xs) = pick (answered x) (x .result .answer ∷ x .result .answered .wait ∷ []) [] ++ answersIn xs
+
+-- the code of each answer, and the tick at which it came, after n ticks
+abbrev pub answersAt : (n : ℕ) → List Entry → List ℕ
+answersAt n [] = []
+answersAt n (x ∷ xs) = pick (answered x) (x .result .answer ∷ (n + pick (ticked x) 1 0) ∷ []) [] ++ answersAt (n + pick (ticked x) 1 0) xs
+
+-- each refusal
+abbrev pub refusalsIn : List Entry → List ℕ
+refusalsIn xs = map (λ x. x .result .refusal) xs
+
+-- what reading a number says, as numbers
+abbrev pub numbersOf : Told → List ℕ
+numbersOf (value v next) = 0 ∷ v ∷ next ∷ []
+numbersOf (refused n) = n ∷ []
+
+-- the answers to a Tx Open and n ticks
+unfoldable pub afterTicks : ℕ → List ℕ
+afterTicks n = answersIn (logOf (openTo 5 ∷ ticks n))
+
+-- the answers to a Tx Open, m ticks, an AIP and n ticks, each with its tick
+unfoldable pub afterAip : (m n : ℕ) → List ℕ
+afterAip m n = answersAt 0 (logOf (openTo 5 ∷ (ticks m ++ (plain aipReceived ∷ ticks n))))
+
+-- ---- the cases
+
+-- DWS at 3: invalid, valid, valid is 3
+abbrev pub M1 : Case
+M1 = record { number = 1; given = run syncAcquired (invalid ∷ dataDword ∷ primitive ∷ []) ∷ []; said = syncAcquired ∷ [] }
+
+-- DWS at 3: the pair invalid, valid three times, then invalid, is 0
+abbrev pub M2 : Case
+M2 = record { number = 2; given = run syncAcquired (invalid ∷ dataDword ∷ invalid ∷ dataDword ∷ invalid ∷ dataDword ∷ invalid ∷ []) ∷ []; said = acquireSync ∷ [] }
+
+-- Tx Open and 1,999 ticks: no answer
+abbrev pub M3 : Case
+M3 = record { number = 3; given = afterTicks 1999; said = [] }
+
+-- one tick more: 69, with a wait of 1,000
+abbrev pub M4 : Case
+M4 = record { number = 4; given = afterTicks 2000; said = openTimeout ∷ 1000 ∷ [] }
+
+-- Tx Open, 999 ticks, an AIP, 2,000 ticks: 69 at tick 2,999
+abbrev pub M5 : Case
+M5 = record { number = 5; given = afterAip 999 2000; said = openTimeout ∷ 2999 ∷ [] }
+
+-- Accept, OPEN from 7, Tx Open to 7, tick: 52, with a wait of 1
+abbrev pub M6 : Case
+M6 = record { number = 6; given = answersIn (logOf (plain acceptOpens ∷ openFrom 7 ∷ openTo 7 ∷ plain tick ∷ [])); said = openedByDestination ∷ 1 ∷ [] }
+
+-- the same with a Tx Open to 8: 53
+abbrev pub M7 : Case
+M7 = record { number = 7; given = answersIn (logOf (plain acceptOpens ∷ openFrom 7 ∷ openTo 8 ∷ plain tick ∷ [])); said = openedByOther ∷ 1 ∷ [] }
+
+-- OPEN, BREAK, Tx Open, tick: 51
+abbrev pub M8 : Case
+M8 = record { number = 8; given = answersIn (logOf (openFrom 7 ∷ plain breakReceived ∷ openTo 5 ∷ plain tick ∷ [])); said = collided ∷ 1 ∷ [] }
+
+-- Tx Open, Cancel, BREAK: 71
+abbrev pub M9 : Case
+M9 = record { number = 9; given = answersIn (logOf (openTo 5 ∷ plain cancelOpen ∷ plain breakReceived ∷ [])); said = portLayerRequest ∷ 0 ∷ [] }
+
+-- Tx Open twice: the second is refused with 3
+abbrev pub M10 : Case
+M10 = record { number = 10; given = refusalsIn (logOf (openTo 5 ∷ openTo 5 ∷ [])); said = 0 ∷ busy ∷ [] }
+
+-- 300 is AC 02
+abbrev pub M11 : Case
+M11 = record { number = 11; given = numberBytes 300; said = 0xAC ∷ 0x02 ∷ [] }
+
+-- 80 00 is Overlong
+abbrev pub M12 : Case
+M12 = record { number = 12; given = numbersOf (readNumber (0x80 ∷ 0x00 ∷ []) 0); said = overlong ∷ [] }
+
+abbrev pub marked : List Case
+marked = M1 ∷ M2 ∷ M3 ∷ M4 ∷ M5 ∷ M6 ∷ M7 ∷ M8 ∷ M9 ∷ M10 ∷ M11 ∷ M12 ∷ []
+
+-- in every case the definitions give what the paper says
+abbrev pub AllMarked : Type 0
+AllMarked = map (λ c. c .given) marked ≡ map (λ c. c .said) marked
