@@ -45,8 +45,12 @@ row P code a b c d =
     (λ t. rw t a)
     (λ f. by-test (eqb code openReceived) (λ t. rw (f, t) b) (λ g. by-test (eqb code openRejectReceived) (λ t. rw (f, g, t) c) (λ h. rw (f, g, h) d)))
 
-pub at-most-six : (code : ℕ) → length (argumentsOf code) ≤ 6
+at-most-six : (code : ℕ) → length (argumentsOf code) ≤ 6
 at-most-six code = row (λ (l : List Range). length l ≤ 6) code (omega arith) (omega arith) (omega arith) (omega arith)
+
+pub six-arguments : (code : ℕ) → argumentCount code ≤ 6
+unfolding argumentCount
+six-arguments code = at-most-six code
 
 capped : (code : ℕ) → Capped (argumentsOf code)
 capped code =
@@ -115,6 +119,11 @@ module _ (e : Event) (k : knownOf e ≡ true) where
 
   pub is-known : IsKnown (e .code) (sixOf e)
   is-known = record { coded = coded-of; ranged = ranged-of }
+
+  -- its code and its arguments are of 64 bits
+  pub numbers-small : (n : ℕ) → getD (allNumbers e) n 0 < 2 ^ 64
+  numbers-small zero = omega (arith, leb-true (e .code) phyDisabled (both (leb txOpen (e .code)) (leb (e .code) phyDisabled) coded-of .1))
+  numbers-small (suc n) = small (e .code) (sixOf e) ranged-of n
 
 pub known-is : {code : ℕ} {vs : List ℕ} → IsKnown code vs → knownOf (eventOf code vs) ≡ true
 unfolding knownOf argumentsKnown argumentRange

@@ -1,3 +1,5 @@
 pub mod Known
 pub mod Numbers
-pub mod Loops
+pub mod ReadLoop
+pub mod WriteLoop
+pub mod First

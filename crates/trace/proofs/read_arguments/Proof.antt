@@ -7,7 +7,8 @@ use Rattle.number.specs.Reading.{value, readNumber, tells}
 use Rattle.event.specs.Table.{within}
 use Rattle.event.specs.declared.Range.{Range}
 use Rattle.trace.specs.Reading.{said}
-use Rattle.trace.proofs.Loops.{Taken, taken-start, six-arguments, taken-fault, taken-bad, taken-on, taken-done}
+use Rattle.trace.proofs.Known.{six-arguments}
+use Rattle.trace.proofs.ReadLoop.{Taken, taken-start, taken-fault, taken-bad, taken-on, taken-done}
 use Rattle.trace.proofs.read_arguments.Statement.{statement}
 use Rattle.trace.proofs.read_arguments.Tie as tie
 

@@ -1,5 +1,5 @@
--- The invariants of the loops: what is left to do, started from here, gives the whole answer.
-use Prim.Native.Nat.{ℕ, zero, suc, _+_, _*_, _^_, _≤_, _<_}
+-- The invariant of the reader's loop: the arguments that are left, read from here on, give the whole answer.
+use Prim.Native.Nat.{ℕ, zero, suc, _+_, _≤_, _<_}
 use mathlib.Core.Bool.{true, false}
 use mathlib.Core.List.{List, [], _∷_, _++_, append-nil}
 use mathlib.Core.Path.{_≡_, refl, sym, ap, _∙_}
@@ -13,7 +13,7 @@ use Rattle.number.specs.Reading as number
 use Rattle.event.specs.Table.{_to_, argumentsOf, argumentCount, argumentRange, within}
 use Rattle.event.specs.declared.Event.{Event}
 use Rattle.trace.specs.Reading.{Got, got, fault, onwards, inRange, arguments, eventOf, afterCode}
-use Rattle.trace.proofs.Known.{at-most-six}
+use Rattle.trace.proofs.Known.{six-arguments}
 
 -- ---- values of which the last ones are zero
 
@@ -66,10 +66,6 @@ taken-start s code place =
       zeros = λ k h. no-values k;
       whole = onto-none (arguments (argumentsOf code) s place);
     }
-
-pub six-arguments : (code : ℕ) → argumentCount code ≤ 6
-unfolding argumentCount
-six-arguments code = at-most-six code
 
 module _ {s : List ℕ} {code place : ℕ} {values : List ℕ} {next i : ℕ} (t : Taken s code place values next i) where
   -- ---- an argument is left
