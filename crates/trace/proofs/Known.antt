@@ -45,7 +45,7 @@ row P code a b c d =
     (λ t. rw t a)
     (λ f. by-test (eqb code openReceived) (λ t. rw (f, t) b) (λ g. by-test (eqb code openRejectReceived) (λ t. rw (f, g, t) c) (λ h. rw (f, g, h) d)))
 
-at-most-six : (code : ℕ) → length (argumentsOf code) ≤ 6
+pub at-most-six : (code : ℕ) → length (argumentsOf code) ≤ 6
 at-most-six code = row (λ (l : List Range). length l ≤ 6) code (omega arith) (omega arith) (omega arith) (omega arith)
 
 pub six-arguments : (code : ℕ) → argumentCount code ≤ 6

@@ -3,3 +3,8 @@ pub mod Numbers
 pub mod ReadLoop
 pub mod WriteLoop
 pub mod First
+pub mod Determined
+pub mod Why
+pub mod Refusals
+pub mod Accepted
+pub mod RoundTrip

@@ -13,6 +13,10 @@ use Rattle.number.specs.Laws.{MovesOn}
 use Rattle.number.proofs.RoundTrip.{read-back}
 use Rattle.number.proofs.Refusals.{read-moves-on}
 
+-- what follows bytes that stand at a place stands at the place after them
+pub behind : (s : List ℕ) (place : ℕ) (bytes rest : List ℕ) → drop place s ≡ bytes ++ rest → drop (place + length bytes) s ≡ rest
+behind s place bytes rest e = sym (drop-drop (length bytes) place s) ∙ ap (drop (length bytes)) e ∙ drop-at bytes rest (length bytes) refl
+
 module _ (v : ℕ) (h : v < 2 ^ 64) where
   -- with room, the number written is read
   written : (s : List ℕ) (place : ℕ) → place + length (numberBytes v) ≤ length s
@@ -31,13 +35,10 @@ module _ (v : ℕ) (h : v < 2 ^ 64) where
     pub inside : place + length (numberBytes v) ≤ length s
     inside = omega (arith, sized, simp (length-drop, length-append) at (ap length e))
 
-    pub behind : drop (place + length (numberBytes v)) s ≡ rest
-    behind = sym (drop-drop (length (numberBytes v)) place s) ∙ ap (drop (length (numberBytes v))) e ∙ drop-at (numberBytes v) rest (length (numberBytes v)) refl
-
     -- writing the number where it stands leaves everything as it is
     same : sets s place (numberBytes v) ≡ s
     same =
-        sets-eq (numberBytes v) s place inside ∙ ap (λ (l : List ℕ). take place s ++ numberBytes v ++ l) behind
+        sets-eq (numberBytes v) s place inside ∙ ap (λ (l : List ℕ). take place s ++ numberBytes v ++ l) (behind s place (numberBytes v) rest e)
         ∙ append-assoc (take place s) (numberBytes v) rest ∙ ap (λ (l : List ℕ). take place s ++ l) (sym e) ∙ take-append-drop place s
 
     pub stands : readNumber s place ≡ value v (place + length (numberBytes v))
