@@ -8,3 +8,4 @@ pub mod Why
 pub mod Refusals
 pub mod Accepted
 pub mod RoundTrip
+pub mod OneForm

@@ -34,11 +34,19 @@ arguments-back (range ∷ ranges) [] w small l s place rest e = absurd (omega ar
 arguments-back (range ∷ ranges) (v ∷ vs) w small l s place rest e =
     let later : List ℕ = bytesOf (take (length ranges) vs) in
     let here : drop place s ≡ numberBytes v ++ (later ++ rest) = e ∙ append-assoc (numberBytes v) later rest in
-    rw (stands v (small 0) s place (later ++ rest) here, w 0,
-    arguments-back ranges vs (λ k. w (suc k)) (λ k. small (suc k)) (omega arith) s (place + length (numberBytes v)) rest (behind s place (numberBytes v) (later ++ rest) here))
+    rw (
+      stands v (small 0) s place (later ++ rest) here,
+      w 0,
+      arguments-back ranges vs (λ k. w (suc k)) (λ k. small (suc k)) (omega arith) s (place + length (numberBytes v)) rest (behind s place (numberBytes v) (later ++ rest) here),
+    )
     (ap (λ (n : ℕ). got (v ∷ take (length ranges) vs) n) (rw (length-append (numberBytes v) later) (add-assoc place (length (numberBytes v)) (length later))))
 
 -- ---- the event
+
+-- its bytes are those of its code and then those of the arguments that it has
+pub parts : (e : Event) → eventBytes e ≡ numberBytes (e .code) ++ bytesOf (take (length (argumentsOf (e .code))) (sixOf e))
+unfolding eventBytes bytesOf argumentCount
+parts e = refl
 
 module _ (e : Event) (k : knownOf e ≡ true) where
   abbrev count : ℕ
@@ -47,17 +55,13 @@ module _ (e : Event) (k : knownOf e ≡ true) where
   abbrev later : List ℕ
   later = bytesOf (take count (sixOf e))
 
-  parts : eventBytes e ≡ numberBytes (e .code) ++ later
-  unfolding eventBytes bytesOf argumentCount
-  parts = refl
-
   -- those that the event lacks are zero, so those that it has make it
   made : eventOf (e .code) (take count (sixOf e)) ≡ e
   made = same-event (e .code) (take count (sixOf e)) (sixOf e) (kept count (sixOf e) (lacks (argumentsOf (e .code)) (sixOf e) (is-known e k .ranged)))
 
   module _ (s : List ℕ) (place : ℕ) (rest : List ℕ) (h : drop place s ≡ eventBytes e ++ rest) where
     here : drop place s ≡ numberBytes (e .code) ++ (later ++ rest)
-    here = h ∙ rw parts (append-assoc (numberBytes (e .code)) later rest)
+    here = h ∙ rw (parts e) (append-assoc (numberBytes (e .code)) later rest)
 
     abbrev after : ℕ
     after = place + length (numberBytes (e .code))
@@ -68,7 +72,7 @@ module _ (e : Event) (k : knownOf e ≡ true) where
         (behind s place (numberBytes (e .code)) (later ++ rest) here)
 
     last : after + length later ≡ place + length (eventBytes e)
-    last = rw (parts, length-append (numberBytes (e .code)) later) (add-assoc place (length (numberBytes (e .code))) (length later))
+    last = rw (parts e, length-append (numberBytes (e .code)) later) (add-assoc place (length (numberBytes (e .code))) (length later))
 
     event-back : readEvent s place ≡ event e (place + length (eventBytes e))
     event-back =
@@ -113,7 +117,7 @@ others-kept e buffer place n h =
     let bytes : List ℕ = eventBytes e in
     rw (w .left, w .long) (
       ap (take place) (sets-eq bytes buffer place (w .room) ∙ append-assoc (take place buffer) bytes (drop (place + length bytes) buffer))
-      ∙ take-at (take place buffer) (bytes ++ drop (place + length bytes) buffer) place (length-take-le place buffer (omega arith)),
+          ∙ take-at (take place buffer) (bytes ++ drop (place + length bytes) buffer) place (length-take-le place buffer (omega arith)),
       behind (sets buffer place bytes) place bytes (drop (place + length bytes) buffer) (stored buffer bytes place (w .room)),
     )
 

@@ -95,7 +95,13 @@ fn all_numbers(e: Event) -> [u64; 7]
     ensures { λ r. ⌜ r ≡ allNumbers e ⌝ }
 {
     [
-        e.code, e.first, e.second, e.third, e.fourth, e.fifth, e.sixth,
+        e.code,
+        e.first,
+        e.second,
+        e.third,
+        e.fourth,
+        e.fifth,
+        e.sixth,
     ]
 }
 
