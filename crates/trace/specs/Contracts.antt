@@ -5,12 +5,14 @@ use mathlib.Core.List.{List}
 use mathlib.Core.Path.{_≡_}
 use lib.ListN.{length}
 use lib.Seq.{sets}
+use denote.Ref.{RefT}
 use Rattle.event.specs.Table.{knownOf}
 use Rattle.event.specs.declared.Event.{Event}
 use Rattle.trace.specs.Reading.{afterCode, said, readEvent, tells}
 use Rattle.trace.specs.Writing.{eventBytes, writeEvent, bufferAfter, tellsWritten}
 use Rattle.trace.specs.declared.EventRead.{EventRead}
 use Rattle.trace.specs.declared.EventWritten.{EventWritten}
+use Rattle.trace.specs.declared.Reader.{Reader}
 
 -- `read_arguments` of a code, from a place of the slice s on, wherever the event starts
 abbrev pub ReadsArguments : List ℕ → ℕ → ℕ → EventRead → Type 0
@@ -33,3 +35,13 @@ FillsBuffer e before place after = after ≡ sets before place (eventBytes e)
 pub record WritesEvent (e : Event) (before : List ℕ) (place : ℕ) (r : EventWritten) (after : List ℕ) : Type 0 where
   pub says : tellsWritten r ≡ writeEvent e before place
   pub bytes : after ≡ bufferAfter e before place
+
+-- `new` of a trace: a reader that holds it, at its first byte
+pub record StartsReader (trace : RefT (List ℕ)) (r : Reader) : Type 0 where
+  pub holds : r .trace ≡ trace
+  pub first : r .place ≡ 0
+
+-- `moved` of a reader to a place: the same trace, at that place
+pub record MovesReader (reader : Reader) (place : ℕ) (r : Reader) : Type 0 where
+  pub holds : r .trace ≡ reader .trace
+  pub there : r .place ≡ place

@@ -5,7 +5,7 @@ ghost use mathlib.Core.Path.{_≡_};
 ghost use lib.ListN.{length};
 ghost use Rattle.event.specs.Table.{knownOf};
 ghost use Rattle.trace.specs.Writing.{allNumbers, eventBytes};
-ghost use Rattle.trace.specs.Contracts.{ReadsArguments, ReadsEvent, FillsBuffer, WritesEvent, HasRoom};
+ghost use Rattle.trace.specs.Contracts.{ReadsArguments, ReadsEvent, FillsBuffer, WritesEvent, HasRoom, StartsReader, MovesReader};
 use event::Event;
 use number::NumberRead;
 use number::NumberWritten;
@@ -26,6 +26,12 @@ pub enum EventWritten {
     Length(usize),
     BadEvent,
     NoRoom,
+}
+
+// A lent trace together with the place reached in it.
+pub struct Reader<'a> {
+    pub trace: &'a [u8],
+    pub place: usize,
 }
 
 // The arguments of a known code from a place on, in the order of the table.
@@ -88,6 +94,37 @@ pub fn read_event(s: &[u8], place: usize) -> EventRead
         NumberRead::Overlong => EventRead::Overlong,
         NumberRead::TooLarge => EventRead::TooLarge,
     }
+}
+
+// A reader at the first byte of a trace.
+pub fn new<'a>(trace: &'a [u8]) -> Reader<'a>
+    ensures { λ r. ⌜ StartsReader (trace .entry) r ⌝ }
+{
+    Reader { trace, place: 0 }
+}
+
+// What stands at a reader's place.
+pub fn next<'a>(reader: Reader<'a>) -> EventRead
+    ensures { λ r. ⌜ ReadsEvent (now (reader .entry .trace)) (reader .entry .place) r ⌝ }
+{
+    read_event(reader.trace, reader.place)
+}
+
+// The reader moved on to a place, the one after an event that was read.
+pub fn moved<'a>(reader: Reader<'a>, place: usize) -> Reader<'a>
+    ensures { λ r. ⌜ MovesReader (reader .entry) place r ⌝ }
+{
+    Reader {
+        trace: reader.trace,
+        place,
+    }
+}
+
+// What stands at a place of a trace, through a reader: for callers that hold none.
+pub fn event_at(trace: &[u8], place: usize) -> EventRead
+    ensures { λ r. ⌜ ReadsEvent (now (trace .entry)) place r ⌝ }
+{
+    next(moved(new(trace), place))
 }
 
 // An event's code and its six arguments, also those that it lacks.
