@@ -8,11 +8,12 @@ use Rattle.trace.specs.Reading.{Told, event, end, tells}
 use Rattle.trace.specs.Reading as reading
 use Rattle.trace.specs.Writing.{ToldWritten, wrote, tellsWritten}
 use Rattle.trace.specs.Writing as writing
-use Rattle.trace.specs.Laws.{ReadTellsOnce, WrittenTellsOnce, ReadDetermined, WriteDetermined}
+use Rattle.trace.specs.Laws.{ReadTellsOnce, WrittenTellsOnce, ReadDetermined, WriteDetermined, StartDetermined, MoveDetermined}
 use Rattle.trace.specs.declared.EventRead.{EventRead}
 use Rattle.trace.specs.declared.EventRead.the-variants as read
 use Rattle.trace.specs.declared.EventWritten.{EventWritten}
 use Rattle.trace.specs.declared.EventWritten.the-variants as written
+use Rattle.trace.specs.declared.Reader.{Reader}
 
 -- what is said tells which answer said it
 answer : Told → EventRead
@@ -50,3 +51,13 @@ read-determined s place r q a b = read-tells-once place r q (a ∙ sym b)
 
 pub write-determined : WriteDetermined
 write-determined e before place r q after later a b = (written-tells-once r q (a .says ∙ sym (b .says)), a .bytes ∙ sym (b .bytes))
+
+-- a reader is what it holds and its place
+same-reader : {r q : Reader} → r .trace ≡ q .trace → r .place ≡ q .place → r ≡ q
+same-reader a b = λ i. record { trace = a i; place = b i }
+
+pub start-determined : StartDetermined
+start-determined trace r q a b = same-reader (a .holds ∙ sym (b .holds)) (a .first ∙ sym (b .first))
+
+pub move-determined : MoveDetermined
+move-determined reader place r q a b = same-reader (a .holds ∙ sym (b .holds)) (a .there ∙ sym (b .there))

@@ -115,6 +115,6 @@ no-room-exactly e buffer place = (
 pub refused-keeps : RefusedKeeps
 refused-keeps e buffer place n h =
     by-room e buffer place
-    (λ k. rw k refl)
-    (λ k f. rw (k, f) refl)
+    (λ k. rw k (refl, refl))
+    (λ k f. rw (k, f) (refl, refl))
     (λ k f. absurd (refused-not-wrote (sym (rw (k, f) at h))))

@@ -5,6 +5,7 @@ use mathlib.Core.List.{List, [], _∷_, _++_}
 use mathlib.Core.Logic.{_↔_}
 use mathlib.Core.Path.{_≡_}
 use lib.ListN.{length, take, drop}
+use denote.Ref.{RefT}
 use Rattle.table.specs.Refusals.{badEvent, cut, overlong, tooLarge, noRoom}
 use Rattle.number.specs.Reading.{value, readNumber}
 use Rattle.number.specs.Laws.{EndsEarly, EndsInZero, TenthTooLarge, Bytes}
@@ -13,11 +14,12 @@ use Rattle.event.specs.declared.Event.{Event}
 use Rattle.event.specs.declared.Range.{Range}
 use Rattle.trace.specs.Reading.{event, end, eventOf, codes, readEvent, eventGiven, placeReached, tells}
 use Rattle.trace.specs.Reading as reading
-use Rattle.trace.specs.Writing.{wrote, eventBytes, traceBytes, writeEvent, bufferAfter, tellsWritten}
+use Rattle.trace.specs.Writing.{wrote, eventBytes, traceBytes, writeEvent, bufferAfter, lengthGiven, tellsWritten}
 use Rattle.trace.specs.Writing as writing
-use Rattle.trace.specs.Contracts.{ReadsEvent, WritesEvent}
+use Rattle.trace.specs.Contracts.{ReadsEvent, WritesEvent, StartsReader, MovesReader}
 use Rattle.trace.specs.declared.EventRead.{EventRead}
 use Rattle.trace.specs.declared.EventWritten.{EventWritten}
+use Rattle.trace.specs.declared.Reader.{Reader}
 
 -- ---- each answer says one thing (proofs/Determined)
 
@@ -29,7 +31,7 @@ ReadTellsOnce = (place : ℕ) (r q : EventRead) → tells place r ≡ tells plac
 abbrev pub WrittenTellsOnce : Type 0
 WrittenTellsOnce = (r q : EventWritten) → tellsWritten r ≡ tellsWritten q → r ≡ q
 
--- two results that `read_event` may give coincide
+-- two results that `read_event` may give coincide; `next` and `event_at` promise the same
 abbrev pub ReadDetermined : Type 0
 ReadDetermined = (s : List ℕ) (place : ℕ) (r q : EventRead) → ReadsEvent s place r → ReadsEvent s place q → r ≡ q
 
@@ -39,7 +41,15 @@ WriteDetermined =
     (e : Event) (before : List ℕ) (place : ℕ) (r q : EventWritten) (after later : List ℕ)
     → WritesEvent e before place r after → WritesEvent e before place q later → (r ≡ q) × (after ≡ later)
 
--- ---- one event (proofs/RoundTrip, proofs/Refusals)
+-- two readers that `new` may make of a trace coincide
+abbrev pub StartDetermined : Type 0
+StartDetermined = (trace : RefT (List ℕ)) (r q : Reader) → StartsReader trace r → StartsReader trace q → r ≡ q
+
+-- two readers that `moved` may give coincide
+abbrev pub MoveDetermined : Type 0
+MoveDetermined = (reader : Reader) (place : ℕ) (r q : Reader) → MovesReader reader place r → MovesReader reader place q → r ≡ q
+
+-- ---- one event (proofs/RoundTrip, proofs/Accepted)
 
 -- what is written at a place is read back there to the same event and the place after it
 abbrev pub ReadBack : Type 0
@@ -142,9 +152,11 @@ NoRoomExactly =
     (e : Event) (buffer : List ℕ) (place : ℕ)
     → writeEvent e buffer place ≡ writing.refused noRoom ↔ ((knownOf e ≡ true) × (length buffer < place + length (eventBytes e)))
 
--- refused, the buffer is as it was
+-- refused, the length is 0 and the buffer is as it was
 abbrev pub RefusedKeeps : Type 0
-RefusedKeeps = (e : Event) (buffer : List ℕ) (place n : ℕ) → writeEvent e buffer place ≡ writing.refused n → bufferAfter e buffer place ≡ buffer
+RefusedKeeps =
+    (e : Event) (buffer : List ℕ) (place n : ℕ) → writeEvent e buffer place ≡ writing.refused n
+    → (lengthGiven (writeEvent e buffer place) ≡ 0) × (bufferAfter e buffer place ≡ buffer)
 
 -- ---- whole traces (proofs/RoundTrip)
 

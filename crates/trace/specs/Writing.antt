@@ -52,6 +52,11 @@ writeEvent e buffer place = pick (knownOf e) (pick (fits e buffer place) (wrote 
 abbrev pub bufferAfter : Event → List ℕ → ℕ → List ℕ
 bufferAfter e buffer place = pick (knownOf e) (pick (fits e buffer place) (sets buffer place (eventBytes e)) buffer) buffer
 
+-- the length that is given: refused, it is 0
+abbrev pub lengthGiven : ToldWritten → ℕ
+lengthGiven (wrote n) = n
+lengthGiven (refused n) = 0
+
 -- what each answer says, as the paper numbers it
 abbrev pub tellsWritten : EventWritten → ToldWritten
 tellsWritten (Length n) = wrote n
