@@ -1,13 +1,11 @@
 -- An event that is read is known, and lies within the trace: each number on the way was in its range, and moved the place on.
 use Prim.Native.Nat.{ℕ, zero, suc, _≤_}
-use mathlib.Core.Bool.{true, true≢false}
+use mathlib.Core.Bool.{true≢false}
 use mathlib.Core.List.{List}
-use mathlib.Core.Path.{_≡_, refl, sym, subst, _∙_}
+use mathlib.Core.Path.{refl, sym, _∙_}
 use native.Mathlib.Omega.{arith}
 use lib.ListN.{length}
 use Rattle.number.proofs.Refusals as number
-use Rattle.event.specs.Table.{knownOf}
-use Rattle.event.specs.declared.Event.{Event}
 use Rattle.event.specs.declared.Range.{Range}
 use Rattle.trace.specs.Laws.{ReadKnown, ReadWritten, ReadMovesOn}
 use Rattle.trace.proofs.Known.{AllWithin, known-is}

@@ -16,7 +16,7 @@ unfolding readEvent
 at-end s place h = rw (le-leb (length s) place h) refl
 
 module _ (s : List ℕ) (place : ℕ) (h : place < length s) where
-  pub within-trace : readEvent s place ≡ said place (readNumbers s place)
+  within-trace : readEvent s place ≡ said place (readNumbers s place)
   unfolding readEvent
   within-trace = rw (lt-leb (length s) place h) refl
 

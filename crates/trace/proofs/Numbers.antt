@@ -8,7 +8,7 @@ use borrow.Author.Tests.{le-leb}
 use lib.ListN.{length, take, drop, length-append, length-drop, take-append-drop}
 use lib.Seq.{sets, sets-eq, drop-at, drop-drop}
 use Rattle.number.specs.Reading.{value, readNumber}
-use Rattle.number.specs.Writing.{numberBytes, fits, wrote, writeNumber, bufferAfter}
+use Rattle.number.specs.Writing.{numberBytes, fits}
 use Rattle.number.specs.Laws.{MovesOn}
 use Rattle.number.proofs.RoundTrip.{read-back}
 use Rattle.number.proofs.Refusals.{read-moves-on}

@@ -1,13 +1,13 @@
 -- Each refusal exactly when the paper says: forwards by why the reader said it, backwards by computing it there.
-use Prim.Native.Nat.{ℕ, _+_, _<_}
-use mathlib.Core.Bool.{Bool, true, false}
+use Prim.Native.Nat.{ℕ, _+_}
+use mathlib.Core.Bool.{true, false}
 use mathlib.Core.List.{List}
 use mathlib.Core.Logic.{_↔_, ⊎-elim}
 use mathlib.Core.Path.{_≡_, refl, sym, _∙_}
 use native.Mathlib.Omega.{arith}
 use borrow.Author.Tests.{lt-leb, leb-false}
 use lib.ListN.{length, drop}
-use Rattle.table.specs.Refusals.{badEvent, cut, overlong, tooLarge, noRoom}
+use Rattle.table.specs.Refusals.{badEvent, cut, overlong, tooLarge}
 use Rattle.table.proofs.Laws.{by-test}
 use Rattle.number.specs.Reading.{value, readNumber}
 use Rattle.number.specs.Reading as number
@@ -16,9 +16,9 @@ use Rattle.event.specs.Table.{within, knownOf}
 use Rattle.event.specs.declared.Event.{Event}
 use Rattle.event.specs.declared.Range.{Range}
 use Rattle.trace.specs.Reading.{refused, fault, inRange, arguments, readEvent}
-use Rattle.trace.specs.Writing.{wrote, eventBytes, fits, writeEvent, bufferAfter}
+use Rattle.trace.specs.Writing.{wrote, eventBytes, fits}
 use Rattle.trace.specs.Writing as writing
-use Rattle.trace.specs.Laws.{Reaches, Comes, Faulty, OutOfRange, CutExactly, OverlongExactly, TooLargeExactly, BadEventExactly, FaultAtFirst, EndExactly, WriterBadEventExactly, NoRoomExactly, RefusedKeeps}
+use Rattle.trace.specs.Laws.{Reaches, Comes, Faulty, CutExactly, OverlongExactly, TooLargeExactly, BadEventExactly, FaultAtFirst, EndExactly, WriterBadEventExactly, NoRoomExactly, RefusedKeeps}
 use Rattle.trace.proofs.First.{at-end, code-fault, code-bad, code-good}
 use Rattle.trace.proofs.Why.{Stops, unread, outside, because}
 

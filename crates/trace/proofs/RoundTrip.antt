@@ -1,23 +1,21 @@
 -- What is written is read back: the code, then the arguments by induction over their ranges, then the events by induction over the list.
-use Prim.Native.Nat.{ℕ, zero, suc, _+_, _^_, _≤_, _<_}
-use mathlib.Core.Bool.{true, false}
-use mathlib.Core.List.{List, [], _∷_, _++_, append-assoc, append-nil}
+use Prim.Native.Nat.{ℕ, suc, _+_, _^_, _≤_, _<_}
+use mathlib.Core.Bool.{true}
+use mathlib.Core.List.{List, [], _∷_, _++_, append-assoc}
 use mathlib.Core.Path.{_≡_, refl, sym, ap, ap₂, subst, _∙_}
 use native.Mathlib.Nat.{add-assoc, add-zero}
 use native.Mathlib.Omega.{arith}
 use borrow.Author.Tests.{leb-true}
 use lib.ListN.{length, take, drop, getD, length-append, length-drop}
 use lib.Seq.{sets, sets-eq, take-at, drop-at, length-take-le}
-use Rattle.table.proofs.Laws.{by-test}
-use Rattle.number.specs.Reading.{value, readNumber}
 use Rattle.number.specs.Writing.{numberBytes}
-use Rattle.event.specs.Table.{argumentsOf, argumentCount, within, knownOf}
+use Rattle.event.specs.Table.{argumentsOf, argumentCount, knownOf}
 use Rattle.event.specs.declared.Event.{Event}
 use Rattle.event.specs.declared.Range.{Range}
-use Rattle.trace.specs.Reading.{event, end, Got, got, arguments, eventOf, said, readEvent}
-use Rattle.trace.specs.Writing.{wrote, bytesOf, eventBytes, traceBytes, fits, writeEvent, bufferAfter}
+use Rattle.trace.specs.Reading.{event, end, got, arguments, eventOf, readEvent}
+use Rattle.trace.specs.Writing.{wrote, bytesOf, eventBytes, traceBytes, writeEvent, bufferAfter}
 use Rattle.trace.specs.Laws.{ReadBack, OthersKept, ReadsAll, ended, taken, AllKnown, TraceBack, ReadsOnce}
-use Rattle.trace.proofs.Known.{AllWithin, IsKnown, sixOf, is-known, numbers-small, lacks, small, at-most-six}
+use Rattle.trace.proofs.Known.{AllWithin, sixOf, is-known, numbers-small, lacks, small, at-most-six}
 use Rattle.trace.proofs.Numbers.{behind, sized, inside, stands}
 use Rattle.trace.proofs.ReadLoop.{kept, same-event}
 use Rattle.trace.proofs.First.{at-end, code-good}
@@ -92,7 +90,7 @@ wrote-is : {m n : ℕ} → wrote m ≡ wrote n → m ≡ n
 wrote-is e = cc
 
 -- a length is told only of an event that is known and fits
-pub record Fits (e : Event) (buffer : List ℕ) (place n : ℕ) : Type 0 where
+record Fits (e : Event) (buffer : List ℕ) (place n : ℕ) : Type 0 where
   pub known : knownOf e ≡ true
   pub room : place + length (eventBytes e) ≤ length buffer
   pub long : n ≡ length (eventBytes e)

@@ -3,9 +3,7 @@ use Prim.Native.Nat.{ℕ, _≤_, _<_}
 use mathlib.Core.Bool.{true, false}
 use mathlib.Core.List.{List, [], _∷_}
 use mathlib.Core.Path.{_≡_, refl, subst}
-use lib.Dec.{ltb}
 use lib.ListN.{length}
-use Rattle.table.specs.Choice.{pick}
 use Rattle.table.specs.Refusals.{badEvent}
 use Rattle.table.proofs.Laws.{by-test, by-order}
 use Rattle.number.specs.Reading.{value, readNumber}
@@ -13,9 +11,9 @@ use Rattle.number.specs.Reading as number
 use Rattle.event.specs.Table.{argumentsOf, within, codeKnown}
 use Rattle.event.specs.declared.Event.{Event}
 use Rattle.event.specs.declared.Range.{Range}
-use Rattle.trace.specs.Reading.{Told, event, end, refused, Got, got, fault, onwards, inRange, arguments, eventOf, afterCode, codes, readEvent, said}
+use Rattle.trace.specs.Reading.{Told, event, end, refused, Got, got, fault, onwards, arguments, eventOf, codes, readEvent, said}
 use Rattle.trace.specs.Laws.{Reaches, Comes}
-use Rattle.trace.proofs.First.{at-end, within-trace, code-fault, code-bad, code-good}
+use Rattle.trace.proofs.First.{at-end, code-fault, code-bad, code-good}
 
 -- arguments that are read without fault
 pub data Arguments (s : List ℕ) : List Range → ℕ → List ℕ → ℕ → Type 0 where

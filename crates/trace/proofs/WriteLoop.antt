@@ -1,5 +1,5 @@
 -- The invariants of the writer's loops: the numbers that are left, from here on, give the whole length and the whole buffer.
-use Prim.Native.Nat.{ℕ, zero, suc, _+_, _*_, _^_, _≤_, _<_}
+use Prim.Native.Nat.{ℕ, suc, _+_, _*_, _^_, _≤_, _<_}
 use mathlib.Core.Bool.{true, false}
 use mathlib.Core.List.{List, [], _∷_, _++_}
 use mathlib.Core.Path.{_≡_, refl, sym, ap, ap₂, _∙_}
@@ -107,7 +107,7 @@ module _ {count : ℕ} {numbers before : List ℕ} {place : ℕ} {buffer : List 
       written : number.wrote n ≡ number.wrote (length (numberBytes (getD numbers i 0)))
       written = rw fit at (c .says)
 
-      pub filling-length : n ≡ length (numberBytes (getD numbers i 0))
+      filling-length : n ≡ length (numberBytes (getD numbers i 0))
       filling-length = let e = written in cc
 
       stored : after ≡ sets buffer at (numberBytes (getD numbers i 0))

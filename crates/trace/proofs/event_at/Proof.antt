@@ -1,6 +1,6 @@
 -- `trace::event_at` meets its contract: a walk of its MIR, by hand. A `Reader` that one call returns is held in a local and passed to the next, from `new` to `moved` and on to `next`. All that the proof knows of the three is that each meets its contract.
 -- A machine value that a call returns is stored and passed on as it is. In a local of a body MIR erases the lifetime of the struct's type, so the value is shown to have the type at `erased`: what the struct owns does not say the lifetime's name.
-use mathlib.Core.Path.{_≡_, refl}
+use mathlib.Core.Path.{refl}
 use Prim.Native.Nat.{ℕ, _<_, _^_}
 use mathlib.Core.List.{List, [], _∷_}
 use lib.ListN.{length}

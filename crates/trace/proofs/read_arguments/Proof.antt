@@ -1,11 +1,9 @@
 -- `trace::read_arguments` meets its contract: each turn takes one argument off the definition, and a fault is the whole answer.
-use Prim.Native.Nat.{_-_, _<_}
-use mathlib.Core.Path.{_≡_, sym, ap, _∙_}
+use Prim.Native.Nat.{_-_}
+use mathlib.Core.Path.{sym, ap, _∙_}
 use native.Mathlib.Omega.{arith}
 use borrow.Author.Needs.{needs}
-use Rattle.number.specs.Reading.{value, readNumber, tells}
-use Rattle.event.specs.Table.{within}
-use Rattle.event.specs.declared.Range.{Range}
+use Rattle.number.specs.Reading.{value, tells}
 use Rattle.trace.specs.Reading.{said}
 use Rattle.trace.proofs.Known.{six-arguments}
 use Rattle.trace.proofs.ReadLoop.{Taken, taken-start, taken-fault, taken-bad, taken-on, taken-done}
