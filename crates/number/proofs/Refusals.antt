@@ -2,6 +2,7 @@
 use Prim.Native.Nat.{ℕ, zero, suc, _+_, _-_, _*_, _≤_, _<_}
 use mathlib.Core.Bool.{Bool, true, false, false≢true}
 use mathlib.Core.List.{List, [], _∷_, _++_}
+use mathlib.Core.Logic.{_⊎_, inl, inr}
 use mathlib.Core.Path.{_≡_, refl, sym, ap, subst, _∙_}
 use native.Mathlib.Nat.{add-suc, suc-add}
 use native.Mathlib.Numerals.{add-one}
@@ -14,7 +15,7 @@ use Rattle.table.specs.Refusals.{cut, overlong, tooLarge}
 use Rattle.table.proofs.Laws.{by-test, by-order}
 use Rattle.number.specs.Reading.{Told, value, refused, high, mostLater, lastGroup, tenthByte, below, groups, readNumber}
 use Rattle.number.specs.Writing.{numberBytes}
-use Rattle.number.specs.Laws.{Followed, EndsEarly, EndsInZero, TenthTooLarge, CutExactly, OverlongExactly, TooLargeExactly, NoRoomExactly, NoRoomKeeps, ReadMovesOn}
+use Rattle.number.specs.Laws.{Followed, EndsEarly, EndsInZero, TenthTooLarge, CutExactly, OverlongExactly, TooLargeExactly, RefusesNoOther, NoRoomExactly, NoRoomKeeps, ReadMovesOn}
 use Rattle.number.proofs.RoundTrip.{refused-not-wrote}
 
 -- ---- forwards: what the reader met, for each thing it says
@@ -125,6 +126,16 @@ too-large-exactly s place = (
   because s place,
   λ l. rw (l .whole) (large-back mostLater true place (l .others) (l .tenth) (l .rest) (l .followed) (l .nine) (l .large)),
 )
+
+-- a number of the table of reasons is one of its three
+listed : (n : ℕ) (bytes : List ℕ) → Why 0 bytes (refused n) → (n ≡ cut) ⊎ ((n ≡ overlong) ⊎ (n ≡ tooLarge))
+listed n bytes w =
+    by-test (eqb n cut) (λ t. inl (eqb-true n cut t))
+    (λ f. by-test (eqb n overlong) (λ t. inr (inl (eqb-true n overlong t)))
+    (λ g. by-test (eqb n tooLarge) (λ t. inr (inr (eqb-true n tooLarge t))) (λ h. absurd (rw (f, g, h) at w))))
+
+pub refuses-no-other : RefusesNoOther
+refuses-no-other s place n e = listed n (drop place s) (because s place e)
 
 pub read-moves-on : ReadMovesOn
 read-moves-on s place v next e =

@@ -1,7 +1,7 @@
 -- What is promised of numbers beyond the contracts. Each statement is proved in proofs/ under the name given beside it.
 use Prim.Native.Nat.{ℕ, _+_, _*_, _%_, _^_, _≤_, _<_}
 use mathlib.Core.List.{List, [], _∷_, _++_, map}
-use mathlib.Core.Logic.{_↔_}
+use mathlib.Core.Logic.{_↔_, _⊎_}
 use mathlib.Core.Path.{_≡_}
 use lib.ListN.{length, drop}
 use Rattle.table.specs.Refusals.{cut, overlong, tooLarge, noRoom}
@@ -115,6 +115,10 @@ pub record TenthTooLarge (bytes : List ℕ) : Type 0 where
 
 abbrev pub TooLargeExactly : Type 0
 TooLargeExactly = (s : List ℕ) (place : ℕ) → readNumber s place ≡ reading.refused tooLarge ↔ TenthTooLarge (drop place s)
+
+-- the reader gives no other refusal
+abbrev pub RefusesNoOther : Type 0
+RefusesNoOther = (s : List ℕ) (place n : ℕ) → readNumber s place ≡ reading.refused n → (n ≡ cut) ⊎ ((n ≡ overlong) ⊎ (n ≡ tooLarge))
 
 -- 10: the bytes of the value do not fit between the place and the buffer's end
 abbrev pub NoRoomExactly : Type 0

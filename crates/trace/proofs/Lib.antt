@@ -1,0 +1,11 @@
+pub mod Known
+pub mod Numbers
+pub mod ReadLoop
+pub mod WriteLoop
+pub mod First
+pub mod Determined
+pub mod Why
+pub mod Refusals
+pub mod Accepted
+pub mod RoundTrip
+pub mod OneForm

@@ -1,0 +1,146 @@
+-- What is written is read back: the code, then the arguments by induction over their ranges, then the events by induction over the list.
+use Prim.Native.Nat.{ℕ, suc, _+_, _^_, _≤_, _<_}
+use mathlib.Core.Bool.{true}
+use mathlib.Core.List.{List, [], _∷_, _++_, append-assoc}
+use mathlib.Core.Path.{_≡_, refl, sym, ap, ap₂, subst, _∙_}
+use native.Mathlib.Nat.{add-assoc, add-zero}
+use native.Mathlib.Omega.{arith}
+use borrow.Author.Tests.{leb-true}
+use lib.ListN.{length, take, drop, getD, length-append, length-drop}
+use lib.Seq.{sets, sets-eq, take-at, drop-at, length-take-le}
+use Rattle.number.specs.Writing.{numberBytes}
+use Rattle.event.specs.Table.{argumentsOf, argumentCount, knownOf}
+use Rattle.event.specs.declared.Event.{Event}
+use Rattle.event.specs.declared.Range.{Range}
+use Rattle.trace.specs.Reading.{event, end, got, arguments, eventOf, readEvent}
+use Rattle.trace.specs.Writing.{wrote, bytesOf, eventBytes, traceBytes, writeEvent, bufferAfter}
+use Rattle.trace.specs.Laws.{ReadBack, OthersKept, ReadsAll, ended, taken, AllKnown, TraceBack, ReadsOnce}
+use Rattle.trace.proofs.Known.{AllWithin, sixOf, is-known, numbers-small, lacks, small, at-most-six}
+use Rattle.trace.proofs.Numbers.{behind, sized, inside, stands}
+use Rattle.trace.proofs.ReadLoop.{kept, same-event}
+use Rattle.trace.proofs.First.{at-end, code-good}
+use Rattle.trace.proofs.Refusals.{refused-not-wrote, by-room}
+
+-- ---- the arguments
+
+arguments-back : (ranges : List Range) (vs : List ℕ) → AllWithin ranges vs → ((k : ℕ) → getD vs k 0 < 2 ^ 64) → length ranges ≤ length vs
+    → (s : List ℕ) (place : ℕ) (rest : List ℕ) → drop place s ≡ bytesOf (take (length ranges) vs) ++ rest
+    → arguments ranges s place ≡ got (take (length ranges) vs) (place + length (bytesOf (take (length ranges) vs)))
+unfolding arguments bytesOf
+arguments-back [] vs w small l s place rest e = ap (λ (n : ℕ). got [] n) (sym (add-zero place))
+arguments-back (range ∷ ranges) [] w small l s place rest e = absurd (omega arith)
+arguments-back (range ∷ ranges) (v ∷ vs) w small l s place rest e =
+    let later : List ℕ = bytesOf (take (length ranges) vs) in
+    let here : drop place s ≡ numberBytes v ++ (later ++ rest) = e ∙ append-assoc (numberBytes v) later rest in
+    rw (
+      stands v (small 0) s place (later ++ rest) here,
+      w 0,
+      arguments-back ranges vs (λ k. w (suc k)) (λ k. small (suc k)) (omega arith) s (place + length (numberBytes v)) rest (behind s place (numberBytes v) (later ++ rest) here),
+    )
+    (ap (λ (n : ℕ). got (v ∷ take (length ranges) vs) n) (rw (length-append (numberBytes v) later) (add-assoc place (length (numberBytes v)) (length later))))
+
+-- ---- the event
+
+-- its bytes are those of its code and then those of the arguments that it has
+pub parts : (e : Event) → eventBytes e ≡ numberBytes (e .code) ++ bytesOf (take (length (argumentsOf (e .code))) (sixOf e))
+unfolding eventBytes bytesOf argumentCount
+parts e = refl
+
+module _ (e : Event) (k : knownOf e ≡ true) where
+  abbrev count : ℕ
+  count = length (argumentsOf (e .code))
+
+  abbrev later : List ℕ
+  later = bytesOf (take count (sixOf e))
+
+  -- those that the event lacks are zero, so those that it has make it
+  made : eventOf (e .code) (take count (sixOf e)) ≡ e
+  made = same-event (e .code) (take count (sixOf e)) (sixOf e) (kept count (sixOf e) (lacks (argumentsOf (e .code)) (sixOf e) (is-known e k .ranged)))
+
+  module _ (s : List ℕ) (place : ℕ) (rest : List ℕ) (h : drop place s ≡ eventBytes e ++ rest) where
+    here : drop place s ≡ numberBytes (e .code) ++ (later ++ rest)
+    here = h ∙ rw (parts e) (append-assoc (numberBytes (e .code)) later rest)
+
+    abbrev after : ℕ
+    after = place + length (numberBytes (e .code))
+
+    arguments-read : arguments (argumentsOf (e .code)) s after ≡ got (take count (sixOf e)) (after + length later)
+    arguments-read =
+        arguments-back (argumentsOf (e .code)) (sixOf e) (is-known e k .ranged) (small (e .code) (sixOf e) (is-known e k .ranged)) (at-most-six (e .code)) s after rest
+        (behind s place (numberBytes (e .code)) (later ++ rest) here)
+
+    last : after + length later ≡ place + length (eventBytes e)
+    last = rw (parts e, length-append (numberBytes (e .code)) later) (add-assoc place (length (numberBytes (e .code))) (length later))
+
+    event-back : readEvent s place ≡ event e (place + length (eventBytes e))
+    event-back =
+        code-good s place (omega (arith, inside (e .code) (numbers-small e k 0) s place (later ++ rest) here, sized (e .code) (numbers-small e k 0)))
+        (stands (e .code) (numbers-small e k 0) s place (later ++ rest) here) (is-known e k .coded)
+        ∙ rw arguments-read (ap₂ event made last)
+
+-- ---- in a buffer
+
+-- what a run of stores leaves from its place on
+stored : (buffer vs : List ℕ) (place : ℕ) → place + length vs ≤ length buffer → drop place (sets buffer place vs) ≡ vs ++ drop (place + length vs) buffer
+stored buffer vs place h =
+    ap (drop place) (sets-eq vs buffer place h ∙ append-assoc (take place buffer) vs (drop (place + length vs) buffer))
+    ∙ drop-at (take place buffer) (vs ++ drop (place + length vs) buffer) place (length-take-le place buffer (omega arith))
+
+wrote-is : {m n : ℕ} → wrote m ≡ wrote n → m ≡ n
+wrote-is e = cc
+
+-- a length is told only of an event that is known and fits
+record Fits (e : Event) (buffer : List ℕ) (place n : ℕ) : Type 0 where
+  pub known : knownOf e ≡ true
+  pub room : place + length (eventBytes e) ≤ length buffer
+  pub long : n ≡ length (eventBytes e)
+  pub left : bufferAfter e buffer place ≡ sets buffer place (eventBytes e)
+
+fitted : (e : Event) (buffer : List ℕ) (place n : ℕ) → writeEvent e buffer place ≡ wrote n → Fits e buffer place n
+fitted e buffer place n h =
+    by-room e buffer place
+    (λ k. absurd (refused-not-wrote (rw k at h)))
+    (λ k f. absurd (refused-not-wrote (rw (k, f) at h)))
+    (λ k f. record { known = k; room = leb-true (place + length (eventBytes e)) (length buffer) f; long = sym (wrote-is (rw (k, f) at h)); left = rw (k, f) refl })
+
+pub read-back : ReadBack
+read-back e buffer place n h =
+    let w = fitted e buffer place n h in
+    rw (w .left, w .long)
+    (event-back e (w .known) (sets buffer place (eventBytes e)) place (drop (place + length (eventBytes e)) buffer) (stored buffer (eventBytes e) place (w .room)))
+
+pub others-kept : OthersKept
+others-kept e buffer place n h =
+    let w = fitted e buffer place n h in
+    let bytes : List ℕ = eventBytes e in
+    rw (w .left, w .long) (
+      ap (take place) (sets-eq bytes buffer place (w .room) ∙ append-assoc (take place buffer) bytes (drop (place + length bytes) buffer))
+          ∙ take-at (take place buffer) (bytes ++ drop (place + length bytes) buffer) place (length-take-le place buffer (omega arith)),
+      behind (sets buffer place bytes) place bytes (drop (place + length bytes) buffer) (stored buffer bytes place (w .room)),
+    )
+
+-- ---- whole traces
+
+trace-back : (es : List Event) → AllKnown es → (s : List ℕ) (place : ℕ) → drop place s ≡ traceBytes es → ReadsAll s place es
+unfolding traceBytes
+trace-back [] k s place h = ended (at-end s place (omega (arith, simp length-drop at (ap length h))))
+trace-back (e ∷ es) k s place h =
+    taken (event-back e (k .0) s place (traceBytes es) h)
+    (trace-back es (k .1) s (place + length (eventBytes e)) (behind s place (eventBytes e) (traceBytes es) h))
+
+pub trace-read-back : TraceBack
+trace-read-back es k = trace-back es k (traceBytes es) 0 refl
+
+event-is : {e f : Event} {m n : ℕ} → event e m ≡ event f n → (e ≡ f) × (m ≡ n)
+event-is h = (cc, cc)
+
+not-ended : {e : Event} {n : ℕ} → end ≡ event e n → ⊥
+not-ended h = let z : _≡_ {A = ℕ} 0 1 = cc in omega arith
+
+pub reads-once : ReadsOnce
+reads-once s place es fs (ended a) (ended b) = refl
+reads-once s place es fs (ended a) (taken b q) = absurd (not-ended (sym a ∙ b))
+reads-once s place es fs (taken a r) (ended b) = absurd (not-ended (sym b ∙ a))
+reads-once s place es fs (taken {e = e} {next} {es = es′} a r) (taken {e = f} {next = after} {es = fs′} b q) =
+    let i = event-is (sym b ∙ a) in
+    ap₂ (λ (x : Event) (l : List Event). x ∷ l) (sym (i .0)) (reads-once s next es′ fs′ r (subst (λ (n : ℕ). ReadsAll s n fs′) (i .1) q))

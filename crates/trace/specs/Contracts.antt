@@ -1,0 +1,47 @@
+-- What each function promises, cited by its `ensures` and, of the public ones, by the theorem that two results it allows coincide.
+use Prim.Native.Nat.{ℕ, _+_, _≤_}
+use mathlib.Core.Bool.{true}
+use mathlib.Core.List.{List}
+use mathlib.Core.Path.{_≡_}
+use lib.ListN.{length}
+use lib.Seq.{sets}
+use denote.Ref.{RefT}
+use Rattle.event.specs.Table.{knownOf}
+use Rattle.event.specs.declared.Event.{Event}
+use Rattle.trace.specs.Reading.{afterCode, said, readEvent, tells}
+use Rattle.trace.specs.Writing.{eventBytes, writeEvent, bufferAfter, tellsWritten}
+use Rattle.trace.specs.declared.EventRead.{EventRead}
+use Rattle.trace.specs.declared.EventWritten.{EventWritten}
+use Rattle.trace.specs.declared.Reader.{Reader}
+
+-- `read_arguments` of a code, from a place of the slice s on, wherever the event starts
+abbrev pub ReadsArguments : List ℕ → ℕ → ℕ → EventRead → Type 0
+ReadsArguments s code place r = (start : ℕ) → tells start r ≡ said start (afterCode code s place)
+
+-- `read_event` of the slice s at a place
+abbrev pub ReadsEvent : List ℕ → ℕ → EventRead → Type 0
+ReadsEvent s place r = tells place r ≡ readEvent s place
+
+-- what `write_numbers` asks: the event is known and its bytes fit
+pub record HasRoom (e : Event) (buffer : List ℕ) (place : ℕ) : Type 0 where
+  pub known : knownOf e ≡ true
+  pub room : place + length (eventBytes e) ≤ length buffer
+
+-- `write_numbers` of an event into the buffer `before` at a place, which leaves it as `after`
+abbrev pub FillsBuffer : Event → List ℕ → ℕ → List ℕ → Type 0
+FillsBuffer e before place after = after ≡ sets before place (eventBytes e)
+
+-- `write_event` of an event into the buffer `before` at a place, which leaves it as `after`
+pub record WritesEvent (e : Event) (before : List ℕ) (place : ℕ) (r : EventWritten) (after : List ℕ) : Type 0 where
+  pub says : tellsWritten r ≡ writeEvent e before place
+  pub bytes : after ≡ bufferAfter e before place
+
+-- `new` of a trace: a reader that holds it, at its first byte
+pub record StartsReader (trace : RefT (List ℕ)) (r : Reader) : Type 0 where
+  pub holds : r .trace ≡ trace
+  pub first : r .place ≡ 0
+
+-- `moved` of a reader to a place: the same trace, at that place
+pub record MovesReader (reader : Reader) (place : ℕ) (r : Reader) : Type 0 where
+  pub holds : r .trace ≡ reader .trace
+  pub there : r .place ≡ place

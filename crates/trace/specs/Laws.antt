@@ -1,0 +1,193 @@
+-- What is promised of events of a trace beyond the contracts. Each statement is proved in proofs/ under the name given beside it.
+use Prim.Native.Nat.{ℕ, _+_, _≤_, _<_}
+use mathlib.Core.Bool.{true, false}
+use mathlib.Core.List.{List, [], _∷_, _++_}
+use mathlib.Core.Logic.{_↔_}
+use mathlib.Core.Path.{_≡_}
+use lib.ListN.{length, take, drop}
+use denote.Ref.{RefT}
+use Rattle.table.specs.Refusals.{badEvent, cut, overlong, tooLarge, noRoom}
+use Rattle.number.specs.Reading.{value, readNumber}
+use Rattle.number.specs.Laws.{EndsEarly, EndsInZero, TenthTooLarge, Bytes}
+use Rattle.event.specs.Table.{argumentsOf, within, codeKnown, knownOf}
+use Rattle.event.specs.declared.Event.{Event}
+use Rattle.event.specs.declared.Range.{Range}
+use Rattle.trace.specs.Reading.{event, end, eventOf, codes, readEvent, eventGiven, placeReached, tells}
+use Rattle.trace.specs.Reading as reading
+use Rattle.trace.specs.Writing.{wrote, eventBytes, traceBytes, writeEvent, bufferAfter, lengthGiven, tellsWritten}
+use Rattle.trace.specs.Writing as writing
+use Rattle.trace.specs.Contracts.{ReadsEvent, WritesEvent, StartsReader, MovesReader}
+use Rattle.trace.specs.declared.EventRead.{EventRead}
+use Rattle.trace.specs.declared.EventWritten.{EventWritten}
+use Rattle.trace.specs.declared.Reader.{Reader}
+
+-- ---- each answer says one thing (proofs/Determined)
+
+-- no two answers of the reader at a place say the same
+abbrev pub ReadTellsOnce : Type 0
+ReadTellsOnce = (place : ℕ) (r q : EventRead) → tells place r ≡ tells place q → r ≡ q
+
+-- no two answers of the writer say the same
+abbrev pub WrittenTellsOnce : Type 0
+WrittenTellsOnce = (r q : EventWritten) → tellsWritten r ≡ tellsWritten q → r ≡ q
+
+-- two results that `read_event` may give coincide; `next` and `event_at` promise the same
+abbrev pub ReadDetermined : Type 0
+ReadDetermined = (s : List ℕ) (place : ℕ) (r q : EventRead) → ReadsEvent s place r → ReadsEvent s place q → r ≡ q
+
+-- two results that `write_event` may give coincide, and so do the buffers that it may leave
+abbrev pub WriteDetermined : Type 0
+WriteDetermined =
+    (e : Event) (before : List ℕ) (place : ℕ) (r q : EventWritten) (after later : List ℕ)
+    → WritesEvent e before place r after → WritesEvent e before place q later → (r ≡ q) × (after ≡ later)
+
+-- two readers that `new` may make of a trace coincide
+abbrev pub StartDetermined : Type 0
+StartDetermined = (trace : RefT (List ℕ)) (r q : Reader) → StartsReader trace r → StartsReader trace q → r ≡ q
+
+-- two readers that `moved` may give coincide
+abbrev pub MoveDetermined : Type 0
+MoveDetermined = (reader : Reader) (place : ℕ) (r q : Reader) → MovesReader reader place r → MovesReader reader place q → r ≡ q
+
+-- ---- one event (proofs/RoundTrip, proofs/Accepted)
+
+-- what is written at a place is read back there to the same event and the place after it
+abbrev pub ReadBack : Type 0
+ReadBack = (e : Event) (buffer : List ℕ) (place n : ℕ) → writeEvent e buffer place ≡ wrote n → readEvent (bufferAfter e buffer place) place ≡ event e (place + n)
+
+-- bytes before the place and after what is written keep their values
+abbrev pub OthersKept : Type 0
+OthersKept =
+    (e : Event) (buffer : List ℕ) (place n : ℕ) → writeEvent e buffer place ≡ wrote n
+    → (take place (bufferAfter e buffer place) ≡ take place buffer) × (drop (place + n) (bufferAfter e buffer place) ≡ drop (place + n) buffer)
+
+-- an event read is one that `known` accepts
+abbrev pub ReadKnown : Type 0
+ReadKnown = (s : List ℕ) (place : ℕ) (e : Event) (next : ℕ) → readEvent s place ≡ event e next → knownOf e ≡ true
+
+-- so the writer does not refuse it with 2
+abbrev pub ReadWritten : Type 0
+ReadWritten =
+    (s : List ℕ) (place : ℕ) (e : Event) (next : ℕ) → readEvent s place ≡ event e next
+    → (buffer : List ℕ) (at : ℕ) → writeEvent e buffer at ≡ writing.refused badEvent → ⊥
+
+-- an event read moves the place forward, and within the trace
+pub record MovesOn (s : List ℕ) (place next : ℕ) : Type 0 where
+  pub forward : place < next
+  pub within : next ≤ length s
+
+abbrev pub ReadMovesOn : Type 0
+ReadMovesOn = (s : List ℕ) (place : ℕ) (e : Event) (next : ℕ) → readEvent s place ≡ event e next → MovesOn s place next
+
+-- ---- each refusal of the reader exactly when (proofs/Refusals)
+
+-- reading numbers of these ranges from a place on comes to the number at `at`, of the range `range`: those before it are read and in theirs
+pub data Reaches (s : List ℕ) : List Range → ℕ → Range → ℕ → Type 0 where
+  here : {range : Range} {ranges : List Range} {place : ℕ} → Reaches s (range ∷ ranges) place range place
+  later :
+      {first : Range} {ranges : List Range} {place v next : ℕ} {range : Range} {at : ℕ}
+      → readNumber s place ≡ value v next → within first v ≡ true → Reaches s ranges next range at → Reaches s (first ∷ ranges) place range at
+
+-- reading the event at a place comes to the number at `at`, of the range `range`: its code, or an argument of a known code
+pub data Comes (s : List ℕ) (place : ℕ) : Range → ℕ → Type 0 where
+  code : place < length s → Comes s place codes place
+  argument :
+      {code next : ℕ} {range : Range} {at : ℕ}
+      → place < length s → readNumber s place ≡ value code next → codeKnown code ≡ true → Reaches s (argumentsOf code) next range at → Comes s place range at
+
+-- a number that is come to and its bytes from there on
+pub record Faulty (s : List ℕ) (place : ℕ) (fault : List ℕ → Type 0) : Type 0 where
+  pub range : Range
+  pub at : ℕ
+  pub comes : Comes s place range at
+  pub why : fault (drop at s)
+
+-- 7: a number that is come to ends too early
+abbrev pub CutExactly : Type 0
+CutExactly = (s : List ℕ) (place : ℕ) → readEvent s place ≡ reading.refused cut place ↔ Faulty s place EndsEarly
+
+-- 8: a number that is come to is not in its shortest form
+abbrev pub OverlongExactly : Type 0
+OverlongExactly = (s : List ℕ) (place : ℕ) → readEvent s place ≡ reading.refused overlong place ↔ Faulty s place EndsInZero
+
+-- 9: a number that is come to is 2^64 or more
+abbrev pub TooLargeExactly : Type 0
+TooLargeExactly = (s : List ℕ) (place : ℕ) → readEvent s place ≡ reading.refused tooLarge place ↔ Faulty s place TenthTooLarge
+
+-- 2: a number that is come to is read and lies out of its range
+pub record OutOfRange (s : List ℕ) (place : ℕ) : Type 0 where
+  pub range : Range
+  pub at : ℕ
+  pub comes : Comes s place range at
+  pub v : ℕ
+  pub next : ℕ
+  pub reads : readNumber s at ≡ value v next
+  pub out : within range v ≡ false
+
+abbrev pub BadEventExactly : Type 0
+BadEventExactly = (s : List ℕ) (place : ℕ) → readEvent s place ≡ reading.refused badEvent place ↔ OutOfRange s place
+
+-- every fault is told with the place of the event's first byte, gives a zero event and does not move the place
+pub record AtFirstByte (s : List ℕ) (place at : ℕ) : Type 0 where
+  pub first : at ≡ place
+  pub zeros : eventGiven (readEvent s place) ≡ eventOf 0 []
+  pub stays : placeReached place (readEvent s place) ≡ place
+
+abbrev pub FaultAtFirst : Type 0
+FaultAtFirst = (s : List ℕ) (place n at : ℕ) → readEvent s place ≡ reading.refused n at → AtFirstByte s place at
+
+-- the trace has ended at its last byte's end and past it
+abbrev pub EndExactly : Type 0
+EndExactly = (s : List ℕ) (place : ℕ) → readEvent s place ≡ end ↔ (length s ≤ place)
+
+-- ---- each refusal of the writer exactly when (proofs/Refusals)
+
+-- 2: the event is not known
+abbrev pub WriterBadEventExactly : Type 0
+WriterBadEventExactly = (e : Event) (buffer : List ℕ) (place : ℕ) → writeEvent e buffer place ≡ writing.refused badEvent ↔ (knownOf e ≡ false)
+
+-- 10: the event is known, and its bytes do not fit between the place and the buffer's end
+abbrev pub NoRoomExactly : Type 0
+NoRoomExactly =
+    (e : Event) (buffer : List ℕ) (place : ℕ)
+    → writeEvent e buffer place ≡ writing.refused noRoom ↔ ((knownOf e ≡ true) × (length buffer < place + length (eventBytes e)))
+
+-- refused, the length is 0 and the buffer is as it was
+abbrev pub RefusedKeeps : Type 0
+RefusedKeeps =
+    (e : Event) (buffer : List ℕ) (place n : ℕ) → writeEvent e buffer place ≡ writing.refused n
+    → (lengthGiven (writeEvent e buffer place) ≡ 0) × (bufferAfter e buffer place ≡ buffer)
+
+-- ---- whole traces (proofs/RoundTrip)
+
+-- reading on from a place gives these events and then the trace's end, with no fault
+pub data ReadsAll (s : List ℕ) : ℕ → List Event → Type 0 where
+  ended : {place : ℕ} → readEvent s place ≡ end → ReadsAll s place []
+  taken : {place : ℕ} {e : Event} {next : ℕ} {es : List Event} → readEvent s place ≡ event e next → ReadsAll s next es → ReadsAll s place (e ∷ es)
+
+-- each event is known
+abbrev pub AllKnown : List Event → Type 0
+AllKnown [] = Unit
+AllKnown (e ∷ es) = (knownOf e ≡ true) × AllKnown es
+
+-- known events written end to end are read back to the same list
+abbrev pub TraceBack : Type 0
+TraceBack = (es : List Event) → AllKnown es → ReadsAll (traceBytes es) 0 es
+
+-- a trace is read to one list of events only
+abbrev pub ReadsOnce : Type 0
+ReadsOnce = (s : List ℕ) (place : ℕ) (es fs : List Event) → ReadsAll s place es → ReadsAll s place fs → es ≡ fs
+
+-- ---- one form for each event (proofs/OneForm, which nothing else cites: padded numbers will remove it)
+
+-- an event read stands there byte for byte as it is written, before what follows it
+abbrev pub OneForm : Type 0
+OneForm = (s : List ℕ) (place : ℕ) (e : Event) (next : ℕ) → Bytes s → readEvent s place ≡ event e next → drop place s ≡ eventBytes e ++ drop next s
+
+-- a trace read to its end without fault is the writing of the events read
+abbrev pub TraceOneForm : Type 0
+TraceOneForm = (s : List ℕ) (es : List Event) → Bytes s → ReadsAll s 0 es → s ≡ traceBytes es
+
+-- two traces with the same events are the same bytes
+abbrev pub SameBytes : Type 0
+SameBytes = (s t : List ℕ) (es : List Event) → Bytes s → Bytes t → ReadsAll s 0 es → ReadsAll t 0 es → s ≡ t
