@@ -13,13 +13,14 @@ use Rattle.table.proofs.Laws.{by-pick, every}
 use Rattle.event.specs.Names.{SMP}
 use Rattle.event.specs.Table.{knownOf, openOf}
 use Rattle.event.specs.declared.Event.{Event}
+use Rattle.trace.proofs.Refusals.{writer-bad-event-exactly}
 use Rattle.phy.specs.Names.{L3, P1, P2}
 use Rattle.phy.specs.State.{validOf}
 use Rattle.phy.specs.Moves.{refused, idleRows, toIdle, txOpenRows, openByLink, onTxOpen, cancelRows, onCancelOpen, onCloseConnection, onSmpBreak, onAccept, openRows, onOpenReceived, openAcceptRows, onOpenAccept, openRejectRows, onOpenReject, aipRows, onAip, breakRows, onBreak, closeRows, onClose, aged, tickRequesting, tickClosing, tickBreaking, acceptRows, accepted, tickSelected, tickRows, onTickAged, onTick, resetRows, onReset}
 use Rattle.phy.specs.Step.{moveOf, stepOf}
 use Rattle.phy.specs.declared.Phy.{Phy}
 use Rattle.phy.specs.declared.Stepped.{Stepped}
-use Rattle.laws.specs.Laws.{Judged, BadStateExactly, BadEventExactly, BusyExactly, NothingPendingExactly, NotConnectedExactly, WrongProtocolExactly, Free, TakenExactly, RefusedKeeps}
+use Rattle.laws.specs.Laws.{Judged, BadStateExactly, BadEventExactly, AsTheWriter, BusyExactly, NothingPendingExactly, NotConnectedExactly, WrongProtocolExactly, Free, TakenExactly, RefusedKeeps}
 use Rattle.laws.proofs.ByEvent.{event, by-code, code-known}
 use Rattle.laws.proofs.Steps.{by-way}
 
@@ -208,6 +209,12 @@ bad-event-exactly p e = (
   by-way (λ r. r .refusal ≡ badEvent → (validOf p ≡ true) × (knownOf e ≡ false)) p e (λ _ q. absurd (omega arith)) (λ v k _. (v, k)) (λ _ k _ q. absurd (subst (Why p e) q (why (judged p e k)))),
   λ f. rw (f .0, f .1),
 )
+
+pub as-the-writer : AsTheWriter
+as-the-writer p e buffer place v =
+    let steps = bad-event-exactly p e in
+    let writes = writer-bad-event-exactly e buffer place in
+    (λ q. writes .1 (steps .0 q .1), λ q. steps .1 (v, writes .0 q))
 
 pub busy-exactly : BusyExactly
 busy-exactly p e = (

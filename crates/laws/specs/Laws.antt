@@ -1,6 +1,7 @@
 -- What holds of every step of a phy. Each statement is proved in proofs/ under its own name.
-use Prim.Native.Nat.{_≤_}
+use Prim.Native.Nat.{ℕ, _≤_}
 use mathlib.Core.Bool.{true, false, _||_}
+use mathlib.Core.List.{List}
 use mathlib.Core.Logic.{_↔_, _⊎_}
 use mathlib.Core.Path.{_≡_}
 use lib.Dec.{eqb}
@@ -8,6 +9,8 @@ use Rattle.table.specs.Refusals.{badState, badEvent, busy, nothingPending, notC
 use Rattle.event.specs.Names.{SMP, txOpen, cancelOpen, closeConnection, smpTransmitBreak, acceptOpens, rejectOpens, hardReset, phyDisabled}
 use Rattle.event.specs.Table.{knownOf}
 use Rattle.event.specs.declared.Event.{Event}
+use Rattle.trace.specs.Writing.{writeEvent}
+use Rattle.trace.specs.Writing as writing
 use Rattle.phy.specs.Names.{L3, P1, P2, P3, closedReset, BREAK}
 use Rattle.phy.specs.State.{noOpen, freshPhy, validOf}
 use Rattle.phy.specs.Moves.{refused}
@@ -42,6 +45,12 @@ BadStateExactly = (p : Phy) (e : Event) → stepOf p e .refusal ≡ badState ↔
 -- 2: it is, and the event is not known
 abbrev pub BadEventExactly : Type 0
 BadEventExactly = (p : Phy) (e : Event) → stepOf p e .refusal ≡ badEvent ↔ (validOf p ≡ true) × (knownOf e ≡ false)
+
+-- so a valid phy refuses with 2 exactly the events that the trace's writer refuses with 2, into any buffer
+abbrev pub AsTheWriter : Type 0
+AsTheWriter =
+    (p : Phy) (e : Event) (buffer : List ℕ) (place : ℕ) → validOf p ≡ true
+    → stepOf p e .refusal ≡ badEvent ↔ (writeEvent e buffer place ≡ writing.refused badEvent)
 
 -- 3: Tx Open, and the port is not in P1
 abbrev pub BusyExactly : Type 0

@@ -3,3 +3,4 @@ pub mod State
 pub mod Moves
 pub mod Step
 pub mod Contracts
+pub mod Laws
