@@ -121,15 +121,15 @@ others-kept e buffer place n h =
 
 -- ---- whole traces
 
-trace-back : (es : List Event) → AllKnown es → (s : List ℕ) (place : ℕ) → drop place s ≡ traceBytes es → ReadsAll s place es
+trace-back-from : (es : List Event) → AllKnown es → (s : List ℕ) (place : ℕ) → drop place s ≡ traceBytes es → ReadsAll s place es
 unfolding traceBytes
-trace-back [] k s place h = ended (at-end s place (omega (arith, simp length-drop at (ap length h))))
-trace-back (e ∷ es) k s place h =
+trace-back-from [] k s place h = ended (at-end s place (omega (arith, simp length-drop at (ap length h))))
+trace-back-from (e ∷ es) k s place h =
     taken (event-back e (k .0) s place (traceBytes es) h)
-    (trace-back es (k .1) s (place + length (eventBytes e)) (behind s place (eventBytes e) (traceBytes es) h))
+    (trace-back-from es (k .1) s (place + length (eventBytes e)) (behind s place (eventBytes e) (traceBytes es) h))
 
-pub trace-read-back : TraceBack
-trace-read-back es k = trace-back es k (traceBytes es) 0 refl
+pub trace-back : TraceBack
+trace-back es k = trace-back-from es k (traceBytes es) 0 refl
 
 event-is : {e f : Event} {m n : ℕ} → event e m ≡ event f n → (e ≡ f) × (m ≡ n)
 event-is h = (cc, cc)
