@@ -7,7 +7,7 @@ use native.Mathlib.Omega.{arith}
 use borrow.Author.Tests.{leb-false, eqb-false, ne-eqb}
 use lib.Dec.{eqb, leb}
 use Rattle.table.specs.Choice.{Row, rows}
-use Rattle.table.proofs.Laws.{by-test}
+use Rattle.table.proofs.Laws.{by-test, every}
 use Rattle.identify.specs.Names.{receiving, completed, none, failed, frameDwords}
 use Rattle.identify.specs.Step.{fresh, reports, quiet, exchanged, onSoaf, counted, onDataDword, whole, frameEnds, onEoaf, onHardReset, onOwnFrameSent, onTick, moves}
 use Rattle.identify.specs.declared.Identification.{Identification}
@@ -107,22 +107,8 @@ tick-lands holds = still holds
 
 -- ---- the table of events
 
--- what holds of each row and of the default holds of what the table says
-All : {A : Type 0} → (A → Type 0) → List (Row A) → Type 0
-All P [] = Unit
-All P (r ∷ rs) = P (r .entry) × All P rs
-
-every : {A : Type 0} (P : A → Type 0) (n : ℕ) (table : List (Row A)) (other : A) → All P table → P other → P (rows n table other)
-unfolding All
-every P n [] other ps p = p
-every P n (r ∷ rs) other ps p =
-    by-test (eqb n (r .key))
-    (λ e. rw e (ps .0))
-    (λ e. rw e (every P n rs other (ps .1) p))
-
 pub table-lands : {i : Identification} (event argument : ℕ) → Going i → Lands (rows event (moves i argument) (quiet i))
-unfolding All
 table-lands {i} event argument g =
-    every Lands event (moves i argument) (quiet i)
+    every Lands event (moves i argument)
     (soaf-lands g, (dword-lands argument g, (eoaf-lands argument g, (reset-lands g, (still g, (sent-lands g, (tick-lands g, (still fresh-going, tt))))))))
     (still g)

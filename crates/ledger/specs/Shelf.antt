@@ -9,14 +9,14 @@ use Rattle.event.specs.Table.{openOf, knownOf}
 use Rattle.event.specs.declared.Event.{Event}
 use Rattle.phy.specs.Step.{stepOf}
 use Rattle.ledger.specs.Log.{Entry, entry, log, accepted, answered, many, ticked, heardAip}
-use Rattle.ledger.specs.Ledger.{free, book}
+use Rattle.ledger.specs.Ledger.{due, free, book}
 use Rattle.ledger.specs.Demand.{logOf, phyAfter, booksOf, AnsweredWithin}
 
--- no hang in Req_Wait: with no AIP, 2,000 ticks after the acceptance hold the answer
+-- no hang in Req_Wait: with no AIP, what is due is 2,000 ticks after the acceptance, and they hold the answer
 abbrev pub NoHang : Type 0
 NoHang =
     (es : List Event) (e : Event) (fs : List Event) → accepted (entry stepOf (phyAfter es) e) ≡ true
-    → many heardAip (log stepOf (stepOf (phyAfter es) e .next) fs) ≡ 0 → 2000 ≤ many ticked (log stepOf (stepOf (phyAfter es) e .next) fs)
+    → many heardAip (log stepOf (stepOf (phyAfter es) e .next) fs) ≡ 0 → due 0 ≤ many ticked (log stepOf (stepOf (phyAfter es) e .next) fs)
     → AnsweredWithin (stepOf (phyAfter es) e .next) (openOf e) fs
 
 -- between two answers there is an acceptance
