@@ -1,3 +1,4 @@
+pub mod Determined
 pub mod Refusals
 pub mod Lost
 pub mod Acquired

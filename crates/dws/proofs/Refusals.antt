@@ -1,20 +1,14 @@
 -- Each refusal exactly when: the tests of the step are those of the statements.
 use Prim.Native.Nat.{ℕ, _≤_, _<_}
-use mathlib.Core.Path.{_≡_, refl, sym, _∙_}
+use mathlib.Core.Path.{_≡_, refl}
 use native.Mathlib.Omega.{arith}
 use borrow.Author.Tests.{le-leb, lt-leb}
 use Rattle.table.specs.Refusals.{badState, badEvent}
 use Rattle.table.proofs.Laws.{by-order, Each, each}
 use Rattle.dws.specs.Names.{lost3Recovered, restart}
 use Rattle.dws.specs.Step.{refused, moved, stepOf, nextState, afterInvalid, afterValid, afterPrimitive, reportOf}
-use Rattle.dws.specs.Laws.{FreshDetermined, StepDetermined, BadStateExactly, BadEventExactly, TakenExactly, RefusedKeeps, StaysValid, RestartQuiet}
+use Rattle.dws.specs.Laws.{BadStateExactly, BadEventExactly, TakenExactly, RefusedKeeps, StaysValid, RestartQuiet}
 use Rattle.dws.specs.declared.Stepped.{Stepped}
-
-pub fresh-determined : FreshDetermined
-fresh-determined r q a b = a ∙ sym b
-
-pub step-determined : StepDetermined
-step-determined s event r q a b = a ∙ sym b
 
 -- ---- the three ways of a step
 

@@ -5,8 +5,8 @@ use Rattle.dws.specs.Step.{freshState, stepOf}
 use Rattle.dws.specs.declared.Stepped.{Stepped}
 
 -- `fresh`
-abbrev pub Fresh : ℕ → Type 0
-Fresh r = r ≡ freshState
+abbrev pub StartsFresh : ℕ → Type 0
+StartsFresh r = r ≡ freshState
 
 -- `step` of a state and an event
 abbrev pub Steps : ℕ → ℕ → Stepped → Type 0

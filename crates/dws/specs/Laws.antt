@@ -10,18 +10,20 @@ use Rattle.table.specs.Choice.{pick, Row, _⇒_, rows}
 use Rattle.table.specs.Refusals.{badState, badEvent}
 use Rattle.dws.specs.Names.{syncAcquired, lost1, lost1Recovered, lost2, lost2Recovered, lost3, lost3Recovered, invalid, dataDword, primitive, restart, noReport, acquired, lost}
 use Rattle.dws.specs.Step.{freshState, refused, stepOf}
-use Rattle.dws.specs.Contracts.{Fresh, Steps}
+use Rattle.dws.specs.Contracts.{StartsFresh, Steps}
 use Rattle.dws.specs.declared.Stepped.{Stepped}
 
--- ---- results (proofs/Refusals)
+-- ---- results are determined (proofs/Determined)
 
 -- two results that `fresh` may give coincide
 abbrev pub FreshDetermined : Type 0
-FreshDetermined = (r q : ℕ) → Fresh r → Fresh q → r ≡ q
+FreshDetermined = (r q : ℕ) → StartsFresh r → StartsFresh q → r ≡ q
 
 -- two results that `step` may give coincide
 abbrev pub StepDetermined : Type 0
 StepDetermined = (s event : ℕ) (r q : Stepped) → Steps s event r → Steps s event q → r ≡ q
+
+-- ---- each refusal exactly when (proofs/Refusals)
 
 -- 1 exactly where the state is above 9
 abbrev pub BadStateExactly : Type 0

@@ -1,7 +1,7 @@
 // Dword synchronization: whether the stream of dwords from the far end is understood.
 ghost use mathlib.Core.Path.{_≡_};
 ghost use Rattle.dws.specs.Step.{afterInvalid, afterValid, afterPrimitive, nextState, reportOf};
-ghost use Rattle.dws.specs.Contracts.{Fresh, Steps};
+ghost use Rattle.dws.specs.Contracts.{StartsFresh, Steps};
 
 // The states, as the standard names them.
 const ACQUIRE_SYNC: u64 = 0;
@@ -46,7 +46,7 @@ pub struct Stepped {
 }
 
 pub fn fresh() -> u64
-    ensures { λ r. ⌜ Fresh r ⌝ }
+    ensures { λ r. ⌜ StartsFresh r ⌝ }
 {
     ACQUIRE_SYNC
 }

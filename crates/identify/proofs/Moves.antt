@@ -1,12 +1,11 @@
 -- Where each event takes a state that has no outcome: to another without one, reporting nothing or Failed, or to one whose outcome it reports.
 use Prim.Native.Nat.{ℕ, _+_, _-_, _<_}
 use mathlib.Core.Bool.{Bool, true, false}
-use mathlib.Core.List.{List, [], _∷_}
 use mathlib.Core.Path.{_≡_, refl}
 use native.Mathlib.Omega.{arith}
 use borrow.Author.Tests.{leb-false, eqb-false, ne-eqb}
 use lib.Dec.{eqb, leb}
-use Rattle.table.specs.Choice.{Row, rows}
+use Rattle.table.specs.Choice.{rows}
 use Rattle.table.proofs.Laws.{by-test, every}
 use Rattle.identify.specs.Names.{receiving, completed, none, failed, frameDwords}
 use Rattle.identify.specs.Step.{fresh, reports, quiet, exchanged, onSoaf, counted, onDataDword, whole, frameEnds, onEoaf, onHardReset, onOwnFrameSent, onTick, moves}

@@ -1,12 +1,9 @@
 -- Which states are valid: one test for each rule of the paper.
 use mathlib.Core.Bool.{Bool, _&&_, _||_, not}
 use lib.Dec.{eqb, leb}
+use Rattle.table.specs.Choice.{split}
 use Rattle.identify.specs.Names.{idle, receiving, completed, none, complete, timedOut, resetReceived, frameDwords, mostTicks}
 use Rattle.identify.specs.declared.Identification.{Identification}
-
--- one test where something holds, another where it does not
-abbrev pub split : Bool → Bool → Bool → Bool
-split holds there elsewhere = (holds && there) || (not holds && elsewhere)
 
 -- one thing holds only where another does
 abbrev pub only : Bool → Bool → Bool

@@ -3,10 +3,10 @@ use Prim.Native.Nat.{ℕ, _+_, _-_, _/_, _%_}
 use mathlib.Core.Bool.{Bool, true, false, _&&_, _||_, not}
 use mathlib.Core.List.{List, [], _∷_}
 use lib.Dec.{eqb, leb}
-use Rattle.table.specs.Choice.{pick, Row, _⇒_, rows}
+use Rattle.table.specs.Choice.{pick, split, Row, _⇒_, rows}
 use Rattle.table.specs.Refusals.{badState, badEvent}
 use Rattle.identify.specs.Names.{idle, receiving, spoiled, completed, soaf, dataDword, eoaf, hardReset, otherPrimitive, ownFrameSent, tick, enable, none, failed, complete, timedOut, resetReceived, frameDwords, identifyType, typePlace, typeValues, crcGood, mostDword, mostTicks}
-use Rattle.identify.specs.State.{split, both, validOf}
+use Rattle.identify.specs.State.{both, validOf}
 use Rattle.identify.specs.declared.Identification.{Identification}
 use Rattle.identify.specs.declared.Stepped.{Stepped}
 

@@ -4,7 +4,7 @@ use mathlib.Core.Bool.{Bool, true, false, _&&_, _||_, false≢true}
 use mathlib.Core.Path.{_≡_, refl, sym, subst}
 use borrow.Author.Tests.{eqb-true}
 use lib.Dec.{eqb}
-use Rattle.phy.specs.State.{inUse}
+use Rattle.table.specs.Choice.{split}
 
 -- both parts of a test
 pub both : (a b : Bool) → a && b ≡ true → (a ≡ true) × (b ≡ true)
@@ -21,9 +21,9 @@ pub at-number : (P : ℕ → Type 0) (n k : ℕ) → eqb n k ≡ true → P k �
 at-number P n k e p = subst P (sym (eqb-true n k e)) p
 
 -- a field in use is in its range
-pub in-range : (range zero : Bool) → inUse true range zero ≡ true → range ≡ true
+pub in-range : (range zero : Bool) → split true range zero ≡ true → range ≡ true
 in-range true zero e = refl
 in-range false zero e = absurd (false≢true e)
 
-pub in-use : (range zero : Bool) → range ≡ true → inUse true range zero ≡ true
+pub in-use : (range zero : Bool) → range ≡ true → split true range zero ≡ true
 in-use range zero e = rw e

@@ -8,8 +8,8 @@ use Rattle.phy.specs.declared.Phy.{Phy}
 use Rattle.phy.specs.declared.Stepped.{Stepped}
 
 -- `fresh`
-abbrev pub IsFresh : Phy → Type 0
-IsFresh r = r ≡ freshPhy
+abbrev pub StartsFresh : Phy → Type 0
+StartsFresh r = r ≡ freshPhy
 
 -- `valid` of a phy
 abbrev pub TellsValid : Phy → Bool → Type 0

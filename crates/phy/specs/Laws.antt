@@ -2,13 +2,13 @@
 use mathlib.Core.Bool.{Bool}
 use mathlib.Core.Path.{_≡_}
 use Rattle.event.specs.declared.Event.{Event}
-use Rattle.phy.specs.Contracts.{IsFresh, TellsValid, Moves, Steps}
+use Rattle.phy.specs.Contracts.{StartsFresh, TellsValid, Moves, Steps}
 use Rattle.phy.specs.declared.Phy.{Phy}
 use Rattle.phy.specs.declared.Stepped.{Stepped}
 
 -- two results that `fresh` may give coincide
 abbrev pub FreshDetermined : Type 0
-FreshDetermined = (r q : Phy) → IsFresh r → IsFresh q → r ≡ q
+FreshDetermined = (r q : Phy) → StartsFresh r → StartsFresh q → r ≡ q
 
 -- two results that `valid` may give coincide
 abbrev pub ValidDetermined : Type 0

@@ -2,10 +2,11 @@
 use Prim.Native.Nat.{ℕ}
 use mathlib.Core.Bool.{Bool, false, _&&_, _||_, not}
 use lib.Dec.{eqb, leb}
+use Rattle.table.specs.Choice.{split}
 use Rattle.event.specs.Names.{STP, mostAddress}
-use Rattle.phy.specs.Names.{L0, L1, L2, L3, L4, L5, L6, P1, P2, P3, P4, openTimeout, openBroken, portLayerRequest, fullTimer}
 use Rattle.event.specs.Table.{openKnown}
 use Rattle.event.specs.declared.Open.{Open}
+use Rattle.phy.specs.Names.{L0, L1, L2, L3, L4, L5, L6, P1, P2, P3, P4, openTimeout, openBroken, portLayerRequest, fullTimer}
 use Rattle.phy.specs.declared.Settings.{Settings}
 use Rattle.phy.specs.declared.Phy.{Phy}
 
@@ -47,11 +48,7 @@ withRequest p request = record { link = p .link; port = p .port; timer = p .time
 abbrev pub withSettings : Phy → (settings : Settings) → Phy
 withSettings p settings = record { link = p .link; port = p .port; timer = p .timer; request = p .request; reason = p .reason; source = p .source; inbound = p .inbound; connection = p .connection; closed = p .closed; settings = settings }
 
--- ---- validity: a test for each rule
-
--- a field in use is in its range, one not in use is zero
-abbrev pub inUse : (used range zero : Bool) → Bool
-inUse used range zero = (used && range) || (not used && zero)
+-- ---- validity: a test for each rule; a field in use is in its range, one not in use is zero
 
 -- P1 with L0, L2, L6; P2 with L1, L2, L6; P3 with L3 to L6; P4 with L5, L6
 abbrev pub validPair : (link port : ℕ) → Bool
@@ -63,7 +60,7 @@ validPair link port =
 
 -- the timer is 1 to 1,000 in L1, L4 and L5, else 0
 abbrev pub validTimer : (link timer : ℕ) → Bool
-validTimer link timer = inUse (eqb link L1 || eqb link L4 || eqb link L5) (leb 1 timer && leb timer fullTimer) (eqb timer 0)
+validTimer link timer = split (eqb link L1 || eqb link L4 || eqb link L5) (leb 1 timer && leb timer fullTimer) (eqb timer 0)
 
 -- no argument is kept
 abbrev pub isNoOpen : Open → Bool
@@ -71,22 +68,22 @@ isNoOpen o = eqb (o .destination) 0 && eqb (o .protocol) 0 && eqb (o .rate) 0 &&
 
 -- the request is in use in P2 and P4
 unfoldable pub validRequest : (port : ℕ) (request : Open) → Bool
-validRequest port request = inUse (eqb port P2 || eqb port P4) (openKnown request) (isNoOpen request)
+validRequest port request = split (eqb port P2 || eqb port P4) (openKnown request) (isNoOpen request)
 
 -- the reason is in use in P4: 70 in L6, 69 or 71 in L5
 abbrev pub validReason : (link port reason : ℕ) → Bool
 validReason link port reason =
-    inUse (eqb port P4)
+    split (eqb port P4)
     ((eqb link L6 && eqb reason openBroken) || (eqb link L5 && (eqb reason openTimeout || eqb reason portLayerRequest)))
     (eqb reason 0)
 
 -- the inbound source, a 64-bit number, and protocol are in use in L2
 unfoldable pub validInbound : (link source inbound : ℕ) → Bool
-validInbound link source inbound = inUse (eqb link L2) (leb source mostAddress && leb inbound STP) (eqb source 0 && eqb inbound 0)
+validInbound link source inbound = split (eqb link L2) (leb source mostAddress && leb inbound STP) (eqb source 0 && eqb inbound 0)
 
 -- the connection's protocol is in use in P3
 abbrev pub validConnection : (port connection : ℕ) → Bool
-validConnection port connection = inUse (eqb port P3) (leb connection STP) (eqb connection 0)
+validConnection port connection = split (eqb port P3) (leb connection STP) (eqb connection 0)
 
 -- the far end has closed only in L3
 abbrev pub validClosed : (link : ℕ) (closed : Bool) → Bool

@@ -1,7 +1,7 @@
 // The fresh phy, and which records are valid.
 ghost use mathlib.Core.Path.{_≡_};
 ghost use Rattle.phy.specs.State.{isNoOpen};
-ghost use Rattle.phy.specs.Contracts.{IsFresh, TellsValid};
+ghost use Rattle.phy.specs.Contracts.{StartsFresh, TellsValid};
 use crate::Phy;
 use crate::Settings;
 use crate::names::FULL_TIMER;
@@ -46,7 +46,7 @@ pub const FRESH: Phy = Phy {
 };
 
 pub fn fresh() -> Phy
-    ensures { λ r. ⌜ IsFresh r ⌝ }
+    ensures { λ r. ⌜ StartsFresh r ⌝ }
 {
     FRESH
 }

@@ -1,6 +1,6 @@
 -- How a definition chooses: one of two by a test, or the row of a table by a number.
 use Prim.Native.Nat.{ℕ}
-use mathlib.Core.Bool.{Bool, true, false}
+use mathlib.Core.Bool.{Bool, true, false, _&&_, _||_, not}
 use mathlib.Core.List.{List, [], _∷_}
 use mathlib.Core.Path.{_≡_}
 use lib.Dec.{eqb}
@@ -10,6 +10,10 @@ infixr 20 _⇒_
 abbrev pub pick {ℓ} : {A : Type ℓ} → Bool → A → A → A
 pick true a b = a
 pick false a b = b
+
+-- one test where something holds, another where it does not; a formula, so that code can say it without a branch
+abbrev pub split : (holds there elsewhere : Bool) → Bool
+split holds there elsewhere = (holds && there) || (not holds && elsewhere)
 
 -- a row: a number and what stands beside it
 pub record Row {ℓ} (A : Type ℓ) : Type ℓ where
