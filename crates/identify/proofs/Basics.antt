@@ -1,5 +1,5 @@
 -- Small facts on tests and equivalences that every law here goes by.
-use mathlib.Core.Bool.{Bool, true, false, _&&_, _||_, false≢true}
+use mathlib.Core.Bool.{Bool, true, false, _||_, false≢true}
 use mathlib.Core.Logic.{_↔_}
 use mathlib.Core.Path.{_≡_, refl, sym, _∙_}
 
@@ -14,11 +14,6 @@ neither a b = (λ x. absurd (a x), λ y. absurd (b y))
 -- two things that both hold are equivalent
 pub together : {A B : Type 0} → A → B → A ↔ B
 together a b = (λ x. b, λ y. a)
-
--- both parts of a test
-pub parts : (a b : Bool) → a && b ≡ true → (a ≡ true) × (b ≡ true)
-parts true b e = (refl, e)
-parts false b e = absurd (false≢true e)
 
 -- the one part of a test that can hold
 pub left-holds : (a : Bool) → a || false ≡ true → a ≡ true

@@ -5,11 +5,12 @@ use mathlib.Core.Path.{_≡_, refl, sym, subst}
 use native.Mathlib.Omega.{arith}
 use borrow.Author.Tests.{le-leb, leb-true, eqb-true, ne-eqb}
 use lib.Dec.{eqb, leb}
+use Rattle.table.proofs.Laws.{parts}
 use Rattle.identify.specs.Names.{idle, receiving, spoiled, completed, none, complete, timedOut, resetReceived, frameDwords, mostTicks}
 use Rattle.table.specs.Choice.{split}
 use Rattle.identify.specs.State.{receiverRight, countRight, typedRight, gotRight, timerRight, outcomeRight, completeRight, timedOutRight, resetRight, validOf}
 use Rattle.identify.specs.declared.Identification.{Identification}
-use Rattle.identify.proofs.Basics.{parts, left-holds}
+use Rattle.identify.proofs.Basics.{left-holds}
 
 -- ---- the shapes
 

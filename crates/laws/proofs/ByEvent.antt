@@ -5,7 +5,7 @@ use mathlib.Core.Path.{_≡_, refl}
 use native.Mathlib.Omega.{arith}
 use borrow.Author.Tests.{eqb-true, leb-true}
 use lib.Dec.{eqb, leb}
-use Rattle.table.proofs.Laws.{by-test, by-pick, each}
+use Rattle.table.proofs.Laws.{by-test, by-pick, each, parts}
 use Rattle.event.specs.Names.{STP, SMP, txOpen, tick, phyDisabled, mostAddress, mostReject}
 use Rattle.event.specs.Table.{argumentRange, argumentsKnown, codeKnown, knownOf, openOf, openKnown}
 use Rattle.event.specs.declared.Event.{Event}
@@ -17,18 +17,18 @@ use Rattle.phy.specs.Step.{moveOf}
 use Rattle.phy.specs.declared.Settings.{Settings}
 use Rattle.phy.specs.declared.Phy.{Phy}
 use Rattle.laws.specs.Waiting.{waits, isAnswer, heard, left}
-use Rattle.laws.proofs.Tests.{both, either, at-number, in-range, in-use}
+use Rattle.laws.proofs.Tests.{either, at-number, in-range, in-use}
 use Rattle.laws.proofs.Shapes.{Fields, phyOf, Facts, by-shape}
 use Rattle.laws.proofs.OneStep.{setsFlag, Stepping, valid-of, still, open-known, protocol-known, longer-known, timed, at-least-one, timed-down}
 
 -- an Open whose arguments are all zero is none
 is-no-open : (o : Open) → isNoOpen o ≡ true → o ≡ noOpen
 is-no-open o h =
-    let f = both (eqb (o .destination) 0 && eqb (o .protocol) 0 && eqb (o .rate) 0 && eqb (o .tag) 0 && eqb (o .blocked) 0) (eqb (o .wait) 0) h in
-    let e = both (eqb (o .destination) 0 && eqb (o .protocol) 0 && eqb (o .rate) 0 && eqb (o .tag) 0) (eqb (o .blocked) 0) (f .0) in
-    let d = both (eqb (o .destination) 0 && eqb (o .protocol) 0 && eqb (o .rate) 0) (eqb (o .tag) 0) (e .0) in
-    let c = both (eqb (o .destination) 0 && eqb (o .protocol) 0) (eqb (o .rate) 0) (d .0) in
-    let b = both (eqb (o .destination) 0) (eqb (o .protocol) 0) (c .0) in
+    let f = parts (eqb (o .destination) 0 && eqb (o .protocol) 0 && eqb (o .rate) 0 && eqb (o .tag) 0 && eqb (o .blocked) 0) (eqb (o .wait) 0) h in
+    let e = parts (eqb (o .destination) 0 && eqb (o .protocol) 0 && eqb (o .rate) 0 && eqb (o .tag) 0) (eqb (o .blocked) 0) (f .0) in
+    let d = parts (eqb (o .destination) 0 && eqb (o .protocol) 0 && eqb (o .rate) 0) (eqb (o .tag) 0) (e .0) in
+    let c = parts (eqb (o .destination) 0 && eqb (o .protocol) 0) (eqb (o .rate) 0) (d .0) in
+    let b = parts (eqb (o .destination) 0) (eqb (o .protocol) 0) (c .0) in
     λ i. record { destination = eqb-true (o .destination) 0 (b .0) i; protocol = eqb-true (o .protocol) 0 (b .1) i; rate = eqb-true (o .rate) 0 (c .1) i; tag = eqb-true (o .tag) 0 (d .1) i; blocked = eqb-true (o .blocked) 0 (e .1) i; wait = eqb-true (o .wait) 0 (f .1) i }
 
 -- ---- what validity says of the fields in use
@@ -53,12 +53,12 @@ runs5 {f = f} h = in-range (timed (f .timer)) (eqb (f .timer) 0) (h .timer)
 inbounds : {port : ℕ} {f : Fields} → Facts 2 port f → leb (f .inbound) STP ≡ true
 unfolding validInbound
 inbounds {f = f} h =
-    both (leb (f .source) mostAddress) (leb (f .inbound) STP) (in-range (leb (f .source) mostAddress && leb (f .inbound) STP) (eqb (f .source) 0 && eqb (f .inbound) 0) (h .inbound)) .1
+    parts (leb (f .source) mostAddress) (leb (f .inbound) STP) (in-range (leb (f .source) mostAddress && leb (f .inbound) STP) (eqb (f .source) 0 && eqb (f .inbound) 0) (h .inbound)) .1
 
 sources : {port : ℕ} {f : Fields} → Facts 2 port f → leb (f .source) mostAddress ≡ true
 unfolding validInbound
 sources {f = f} h =
-    both (leb (f .source) mostAddress) (leb (f .inbound) STP) (in-range (leb (f .source) mostAddress && leb (f .inbound) STP) (eqb (f .source) 0 && eqb (f .inbound) 0) (h .inbound)) .0
+    parts (leb (f .source) mostAddress) (leb (f .inbound) STP) (in-range (leb (f .source) mostAddress && leb (f .inbound) STP) (eqb (f .source) 0 && eqb (f .inbound) 0) (h .inbound)) .0
 
 linked : {link : ℕ} {f : Fields} → Facts link 3 f → leb (f .connection) STP ≡ true
 linked {f = f} h = in-range (leb (f .connection) STP) (eqb (f .connection) 0) (h .connection)
@@ -136,24 +136,24 @@ unfolding knownOf argumentsKnown argumentRange
 source-known a b c d g h k =
     let none : ℕ → Bool = λ n. leb 0 n && leb n 0 in
     let both-fit : Bool = (leb 0 a && leb a mostAddress) && (leb 0 b && leb b STP) in
-    let u = both (both-fit && none c && none d && none g) (none h) k in
-    let v = both (both-fit && none c && none d) (none g) (u .0) in
-    let w = both (both-fit && none c) (none d) (v .0) in
-    let x = both both-fit (none c) (w .0) in
-    let y = both (leb 0 a && leb a mostAddress) (leb 0 b && leb b STP) (x .0) in
-    (both (leb 0 a) (leb a mostAddress) (y .0) .1, both (leb 0 b) (leb b STP) (y .1) .1)
+    let u = parts (both-fit && none c && none d && none g) (none h) k in
+    let v = parts (both-fit && none c && none d) (none g) (u .0) in
+    let w = parts (both-fit && none c) (none d) (v .0) in
+    let x = parts both-fit (none c) (w .0) in
+    let y = parts (leb 0 a && leb a mostAddress) (leb 0 b && leb b STP) (x .0) in
+    (parts (leb 0 a) (leb a mostAddress) (y .0) .1, parts (leb 0 b) (leb b STP) (y .1) .1)
 
 reason-known : (a b c d g h : ℕ) → knownOf (event 9 a b c d g h) ≡ true → a ≤ mostReject
 unfolding knownOf argumentsKnown argumentRange
 reason-known a b c d g h k =
     let none : ℕ → Bool = λ n. leb 0 n && leb n 0 in
     let one : Bool = leb 0 a && leb a mostReject in
-    let u = both (one && none b && none c && none d && none g) (none h) k in
-    let v = both (one && none b && none c && none d) (none g) (u .0) in
-    let w = both (one && none b && none c) (none d) (v .0) in
-    let x = both (one && none b) (none c) (w .0) in
-    let y = both one (none b) (x .0) in
-    leb-true a mostReject (both (leb 0 a) (leb a mostReject) (y .0) .1)
+    let u = parts (one && none b && none c && none d && none g) (none h) k in
+    let v = parts (one && none b && none c && none d) (none g) (u .0) in
+    let w = parts (one && none b && none c) (none d) (v .0) in
+    let x = parts (one && none b) (none c) (w .0) in
+    let y = parts one (none b) (x .0) in
+    leb-true a mostReject (parts (leb 0 a) (leb a mostReject) (y .0) .1)
 
 -- ---- 1, Tx Open: in P1 it is taken, in any other port state refused
 on-tx-open : (a b c d g h : ℕ) → knownOf (event 1 a b c d g h) ≡ true → (p : Phy) → validOf p ≡ true → Stepping p (event 1 a b c d g h) (onTxOpen p (event 1 a b c d g h))
@@ -399,14 +399,14 @@ pub by-code :
     (R : ℕ → Type 0) → R 1 → R 2 → R 3 → R 4 → R 5 → R 6 → R 7 → R 8 → R 9 → R 10 → R 11 → R 12 → R 13 → R 14 → R 15
     → (code : ℕ) → codeKnown code ≡ true → R code
 by-code R a b c d e f g h i j k l m n o code v =
-    let q = both (leb txOpen code) (leb code phyDisabled) v in
+    let q = parts (leb txOpen code) (leb code phyDisabled) v in
     each (λ n. 1 ≤ n → R n) 16
     ((((((((((((((((tt, λ l. absurd (omega arith)), λ _. a), λ _. b), λ _. c), λ _. d), λ _. e), λ _. f), λ _. g), λ _. h), λ _. i), λ _. j), λ _. k), λ _. l), λ _. m), λ _. n), λ _. o)
     code (omega (arith, leb-true code phyDisabled (q .1))) (leb-true txOpen code (q .0))
 
 pub code-known : (e : Event) → knownOf e ≡ true → codeKnown (e .code) ≡ true
 unfolding knownOf
-code-known e k = both (codeKnown (e .code)) (argumentsKnown (e .code) (e .first) (e .second) (e .third) (e .fourth) (e .fifth) (e .sixth)) k .0
+code-known e k = parts (codeKnown (e .code)) (argumentsKnown (e .code) (e .first) (e .second) (e .third) (e .fourth) (e .fifth) (e .sixth)) k .0
 
 -- the one-step law: a valid phy and a known event
 pub one-step : (p : Phy) (e : Event) → validOf p ≡ true → knownOf e ≡ true → Stepping p e (moveOf p e)

@@ -6,7 +6,7 @@ use native.Mathlib.Omega.{arith}
 use borrow.Author.Tests.{leb-true, leb-false, le-leb}
 use lib.Dec.{eqb, leb, leb·zero}
 use Rattle.table.specs.Choice.{pick}
-use Rattle.table.proofs.Laws.{by-test, by-pick}
+use Rattle.table.proofs.Laws.{by-test, by-pick, parts}
 use Rattle.event.specs.Names.{STP, txOpen, tick, mostWait}
 use Rattle.event.specs.Table.{within, argumentRange, argumentsKnown, codeKnown, knownOf, openOf, openKnown}
 use Rattle.event.specs.declared.Event.{Event}
@@ -17,7 +17,6 @@ use Rattle.phy.specs.Moves.{refused, longer}
 use Rattle.phy.specs.declared.Phy.{Phy}
 use Rattle.phy.specs.declared.Stepped.{Stepped}
 use Rattle.laws.specs.Waiting.{waits, accepts, isAnswer, heard, ticksOf, aipsOf, left}
-use Rattle.laws.proofs.Tests.{both}
 use Rattle.laws.proofs.Shapes.{Fields, phyOf, Facts}
 
 -- ---- what a step does to a waiting request
@@ -102,27 +101,27 @@ fit5 o = fit2 o && fit 2 (o .rate) && fit 3 (o .tag) && fit 4 (o .blocked)
 
 fits : (o : Open) → openKnown o ≡ true → (fit5 o ≡ true) × (fit 5 (o .wait) ≡ true)
 unfolding openKnown argumentsKnown
-fits o k = both (fit5 o) (fit 5 (o .wait)) k
+fits o k = parts (fit5 o) (fit 5 (o .wait)) k
 
 pub protocol-known : (o : Open) → openKnown o ≡ true → leb (o .protocol) STP ≡ true
 unfolding argumentRange
 protocol-known o k =
-    let a = both (fit2 o && fit 2 (o .rate) && fit 3 (o .tag)) (fit 4 (o .blocked)) (fits o k .0) in
-    let b = both (fit2 o && fit 2 (o .rate)) (fit 3 (o .tag)) (a .0) in
-    let c = both (fit2 o) (fit 2 (o .rate)) (b .0) in
-    let d = both (fit 0 (o .destination)) (fit 1 (o .protocol)) (c .0) in
-    both (leb 0 (o .protocol)) (leb (o .protocol) STP) (d .1) .1
+    let a = parts (fit2 o && fit 2 (o .rate) && fit 3 (o .tag)) (fit 4 (o .blocked)) (fits o k .0) in
+    let b = parts (fit2 o && fit 2 (o .rate)) (fit 3 (o .tag)) (a .0) in
+    let c = parts (fit2 o) (fit 2 (o .rate)) (b .0) in
+    let d = parts (fit 0 (o .destination)) (fit 1 (o .protocol)) (c .0) in
+    parts (leb 0 (o .protocol)) (leb (o .protocol) STP) (d .1) .1
 
 pub wait-known : (o : Open) → openKnown o ≡ true → o .wait ≤ mostWait
 unfolding argumentRange
-wait-known o k = leb-true (o .wait) mostWait (both (leb 0 (o .wait)) (leb (o .wait) mostWait) (fits o k .1) .1)
+wait-known o k = leb-true (o .wait) mostWait (parts (leb 0 (o .wait)) (leb (o .wait) mostWait) (fits o k .1) .1)
 
 -- the Open of a known Tx Open
 pub open-known : (e : Event) → knownOf e ≡ true → e .code ≡ txOpen → openKnown (openOf e) ≡ true
 unfolding knownOf openKnown
 open-known e k h =
     subst (λ (code : ℕ). argumentsKnown code (e .first) (e .second) (e .third) (e .fourth) (e .fifth) (e .sixth) ≡ true) h
-    (both (codeKnown (e .code)) (argumentsKnown (e .code) (e .first) (e .second) (e .third) (e .fourth) (e .fifth) (e .sixth)) k .1)
+    (parts (codeKnown (e .code)) (argumentsKnown (e .code) (e .first) (e .second) (e .third) (e .fourth) (e .fifth) (e .sixth)) k .1)
 
 -- a wait that has grown is still a wait
 longer-wait : (w : ℕ) → leb w mostWait ≡ true → leb (pick (leb mostWait w) w (w + 1)) mostWait ≡ true
@@ -130,7 +129,7 @@ longer-wait w k = by-pick (λ n. leb n mostWait ≡ true) (leb mostWait w) (λ t
 
 longer-fits : (w : ℕ) → fit 5 w ≡ true → fit 5 (pick (leb mostWait w) w (w + 1)) ≡ true
 unfolding argumentRange
-longer-fits w k = rw (leb·zero (pick (leb mostWait w) w (w + 1))) (longer-wait w (both (leb 0 w) (leb w mostWait) k .1))
+longer-fits w k = rw (leb·zero (pick (leb mostWait w) w (w + 1))) (longer-wait w (parts (leb 0 w) (leb w mostWait) k .1))
 
 pub longer-known : (o : Open) → openKnown o ≡ true → openKnown (longer o) ≡ true
 unfolding openKnown argumentsKnown longer
@@ -141,8 +140,8 @@ abbrev pub timed : ℕ → Bool
 timed t = leb 1 t && leb t fullTimer
 
 pub at-least-one : (t : ℕ) → timed t ≡ true → 1 ≤ t
-at-least-one t h = leb-true 1 t (both (leb 1 t) (leb t fullTimer) h .0)
+at-least-one t h = leb-true 1 t (parts (leb 1 t) (leb t fullTimer) h .0)
 
 -- one that has not fallen to 0 still runs
 pub timed-down : (t : ℕ) → timed t ≡ true → leb t 1 ≡ false → timed (t - 1) ≡ true
-timed-down t h f = rw (le-leb 1 (t - 1) (omega (arith, leb-false t 1 f)), le-leb (t - 1) fullTimer (omega (arith, leb-true t fullTimer (both (leb 1 t) (leb t fullTimer) h .1))))
+timed-down t h f = rw (le-leb 1 (t - 1) (omega (arith, leb-false t 1 f)), le-leb (t - 1) fullTimer (omega (arith, leb-true t fullTimer (parts (leb 1 t) (leb t fullTimer) h .1))))

@@ -3,11 +3,12 @@ use Prim.Native.Nat.{ℕ}
 use mathlib.Core.Bool.{Bool, true}
 use mathlib.Core.Path.{_≡_}
 use lib.Dec.{eqb}
+use Rattle.table.proofs.Laws.{parts}
 use Rattle.event.specs.declared.Open.{Open}
 use Rattle.phy.specs.State.{validPair, validTimer, validRequest, validReason, validInbound, validConnection, validClosed, validOf}
 use Rattle.phy.specs.declared.Settings.{Settings}
 use Rattle.phy.specs.declared.Phy.{Phy}
-use Rattle.laws.proofs.Tests.{both, either, at-number}
+use Rattle.laws.proofs.Tests.{either, at-number}
 
 -- ---- the twelve pairs of link and port
 
@@ -21,10 +22,10 @@ by-pair Q link port v a b c d e f g h i j k l =
     either _ _ v
     (λ w. either _ _ w
     (λ w. either _ _ w
-    (λ w. let q = both _ _ w in either _ _ (q .1) (λ x. either _ _ x (λ x. at 0 1 x (q .0) a) (λ x. at 2 1 x (q .0) b)) (λ x. at 6 1 x (q .0) c))
-    (λ w. let q = both _ _ w in either _ _ (q .1) (λ x. either _ _ x (λ x. at 1 2 x (q .0) d) (λ x. at 2 2 x (q .0) e)) (λ x. at 6 2 x (q .0) f)))
-    (λ w. let q = both _ _ w in either _ _ (q .1) (λ x. either _ _ x (λ x. either _ _ x (λ x. at 3 3 x (q .0) g) (λ x. at 4 3 x (q .0) h)) (λ x. at 5 3 x (q .0) i)) (λ x. at 6 3 x (q .0) j)))
-    (λ w. let q = both _ _ w in either _ _ (q .1) (λ x. at 5 4 x (q .0) k) (λ x. at 6 4 x (q .0) l))
+    (λ w. let q = parts _ _ w in either _ _ (q .1) (λ x. either _ _ x (λ x. at 0 1 x (q .0) a) (λ x. at 2 1 x (q .0) b)) (λ x. at 6 1 x (q .0) c))
+    (λ w. let q = parts _ _ w in either _ _ (q .1) (λ x. either _ _ x (λ x. at 1 2 x (q .0) d) (λ x. at 2 2 x (q .0) e)) (λ x. at 6 2 x (q .0) f)))
+    (λ w. let q = parts _ _ w in either _ _ (q .1) (λ x. either _ _ x (λ x. either _ _ x (λ x. at 3 3 x (q .0) g) (λ x. at 4 3 x (q .0) h)) (λ x. at 5 3 x (q .0) i)) (λ x. at 6 3 x (q .0) j)))
+    (λ w. let q = parts _ _ w in either _ _ (q .1) (λ x. at 5 4 x (q .0) k) (λ x. at 6 4 x (q .0) l))
 
 -- ---- a phy by its pair and its other fields, and what validity says of them
 
@@ -55,12 +56,12 @@ tests : (p : Phy) → validOf p ≡ true
     → (validPair (p .link) (p .port) ≡ true) × (validTimer (p .link) (p .timer) ≡ true) × (validRequest (p .port) (p .request) ≡ true) × (validReason (p .link) (p .port) (p .reason) ≡ true) × (validInbound (p .link) (p .source) (p .inbound) ≡ true) × (validConnection (p .port) (p .connection) ≡ true) × (validClosed (p .link) (p .closed) ≡ true)
 unfolding validOf
 tests p v =
-    let g = both _ _ v in
-    let f = both _ _ (g .0) in
-    let e = both _ _ (f .0) in
-    let d = both _ _ (e .0) in
-    let c = both _ _ (d .0) in
-    let b = both _ _ (c .0) in
+    let g = parts _ _ v in
+    let f = parts _ _ (g .0) in
+    let e = parts _ _ (f .0) in
+    let d = parts _ _ (e .0) in
+    let c = parts _ _ (d .0) in
+    let b = parts _ _ (c .0) in
     (b .0, b .1, c .1, d .1, e .1, f .1, g .1)
 
 -- what holds of each of the twelve shapes holds of every valid phy

@@ -6,7 +6,7 @@ use native.Mathlib.Omega.{arith}
 use borrow.Author.Tests.{leb-true}
 use lib.Dec.{leb}
 use Rattle.table.specs.Refusals.{badState, badEvent}
-use Rattle.table.proofs.Laws.{by-pick}
+use Rattle.table.proofs.Laws.{by-pick, parts}
 use Rattle.event.specs.Table.{knownOf}
 use Rattle.event.specs.declared.Event.{Event}
 use Rattle.phy.specs.State.{validOf, validRequest, validInbound}
@@ -15,7 +15,6 @@ use Rattle.phy.specs.Step.{moveOf, stepOf}
 use Rattle.phy.specs.declared.Phy.{Phy}
 use Rattle.phy.specs.declared.Stepped.{Stepped}
 use Rattle.laws.specs.Laws.{FreshValid, StaysValid, FlagKept, ReportsAreListed}
-use Rattle.laws.proofs.Tests.{both}
 use Rattle.laws.proofs.OneStep.{Stepping}
 use Rattle.laws.proofs.ByEvent.{one-step}
 
@@ -43,8 +42,8 @@ flag-kept p e f = by-way (λ r. r .next .settings ≡ p .settings) p e (λ _. re
 
 listed : (r : Stepped) → leb (r .notice) 7 && leb (r .sent) 5 && leb (r .refusal) 6 ≡ true → (r .notice ≤ 7) × (r .sent ≤ 5) × (r .refusal ≤ 6)
 listed r h =
-    let a = both (leb (r .notice) 7 && leb (r .sent) 5) (leb (r .refusal) 6) h in
-    let b = both (leb (r .notice) 7) (leb (r .sent) 5) (a .0) in
+    let a = parts (leb (r .notice) 7 && leb (r .sent) 5) (leb (r .refusal) 6) h in
+    let b = parts (leb (r .notice) 7) (leb (r .sent) 5) (a .0) in
     (leb-true (r .notice) 7 (b .0), leb-true (r .sent) 5 (b .1), leb-true (r .refusal) 6 (a .1))
 
 pub reports-are-listed : ReportsAreListed

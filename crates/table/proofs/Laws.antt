@@ -1,6 +1,6 @@
 -- Laws of a choice by a number: the row at a listed number, the default at any other.
 use Prim.Native.Nat.{ℕ, zero, suc, _<_, _≤_}
-use mathlib.Core.Bool.{Bool, true, false}
+use mathlib.Core.Bool.{Bool, true, false, _&&_, false≢true}
 use mathlib.Core.List.{List, [], _∷_}
 use mathlib.Core.Path.{_≡_, refl, subst}
 use native.Mathlib.Nat.{le-antisymm, le-of-suc-le-suc}
@@ -38,6 +38,11 @@ along f false a b = refl
 pub by-test : {A : Type 0} (test : Bool) → (test ≡ true → A) → (test ≡ false → A) → A
 by-test true a b = a refl
 by-test false a b = b refl
+
+-- both parts of a test that holds
+pub parts : (a b : Bool) → a && b ≡ true → (a ≡ true) × (b ≡ true)
+parts true b e = (refl, e)
+parts false b e = absurd (false≢true e)
 
 -- by the order of two numbers
 pub by-order : {A : Type 0} (m n : ℕ) → (m < n → A) → (n ≤ m → A) → A
