@@ -7,7 +7,7 @@ use native.Mathlib.Omega.{arith}
 use borrow.Author.Tests.{eqb-true, eq-eqb}
 use lib.Dec.{eqb}
 use Rattle.table.specs.Choice.{pick}
-use Rattle.table.proofs.Laws.{by-test}
+use Rattle.table.proofs.Laws.{by-test, parts}
 use Rattle.event.specs.Table.{openOf}
 use Rattle.event.specs.declared.Event.{Event}
 use Rattle.event.specs.declared.Open.{Open}
@@ -15,7 +15,6 @@ use Rattle.phy.specs.State.{validOf, freshPhy, noOpen}
 use Rattle.phy.specs.Step.{stepOf}
 use Rattle.phy.specs.declared.Phy.{Phy}
 use Rattle.laws.specs.Waiting.{isAnswer}
-use Rattle.laws.proofs.Tests.{both}
 use Rattle.laws.proofs.Steps.{fresh-valid, stays-valid}
 use Rattle.ledger.specs.Log.{Entry, entry, log, after, accepted, answered, many, ticked, tickedInP2, heardAip}
 use Rattle.ledger.specs.Ledger.{due, Waiting, Ledger, free, waiting, broken, grown, sameOpen, begins, through, silent, answers, book, books}
@@ -28,11 +27,11 @@ use Rattle.ledger.proofs.Demand.{follow, in-time-by}
 -- the arguments of two Opens that test the same are the same
 same-open : (a b : Open) → sameOpen a b ≡ true → a ≡ b
 same-open a b h =
-    let f = both (eqb (a .destination) (b .destination) && eqb (a .protocol) (b .protocol) && eqb (a .rate) (b .rate) && eqb (a .tag) (b .tag) && eqb (a .blocked) (b .blocked)) (eqb (a .wait) (b .wait)) h in
-    let e = both (eqb (a .destination) (b .destination) && eqb (a .protocol) (b .protocol) && eqb (a .rate) (b .rate) && eqb (a .tag) (b .tag)) (eqb (a .blocked) (b .blocked)) (f .0) in
-    let d = both (eqb (a .destination) (b .destination) && eqb (a .protocol) (b .protocol) && eqb (a .rate) (b .rate)) (eqb (a .tag) (b .tag)) (e .0) in
-    let c = both (eqb (a .destination) (b .destination) && eqb (a .protocol) (b .protocol)) (eqb (a .rate) (b .rate)) (d .0) in
-    let g = both (eqb (a .destination) (b .destination)) (eqb (a .protocol) (b .protocol)) (c .0) in
+    let f = parts (eqb (a .destination) (b .destination) && eqb (a .protocol) (b .protocol) && eqb (a .rate) (b .rate) && eqb (a .tag) (b .tag) && eqb (a .blocked) (b .blocked)) (eqb (a .wait) (b .wait)) h in
+    let e = parts (eqb (a .destination) (b .destination) && eqb (a .protocol) (b .protocol) && eqb (a .rate) (b .rate) && eqb (a .tag) (b .tag)) (eqb (a .blocked) (b .blocked)) (f .0) in
+    let d = parts (eqb (a .destination) (b .destination) && eqb (a .protocol) (b .protocol) && eqb (a .rate) (b .rate)) (eqb (a .tag) (b .tag)) (e .0) in
+    let c = parts (eqb (a .destination) (b .destination) && eqb (a .protocol) (b .protocol)) (eqb (a .rate) (b .rate)) (d .0) in
+    let g = parts (eqb (a .destination) (b .destination)) (eqb (a .protocol) (b .protocol)) (c .0) in
     λ i. record { destination = eqb-true (a .destination) (b .destination) (g .0) i; protocol = eqb-true (a .protocol) (b .protocol) (g .1) i; rate = eqb-true (a .rate) (b .rate) (c .1) i; tag = eqb-true (a .tag) (b .tag) (d .1) i; blocked = eqb-true (a .blocked) (b .blocked) (e .1) i; wait = eqb-true (a .wait) (b .wait) (f .1) i }
 
 data Next (w : Waiting) (x : Entry) : Type 0 where
@@ -45,9 +44,9 @@ next w x n =
     by-test (accepted x)
     (λ t. absurd (n (rw t)))
     (λ f. by-test (silent x)
-    (λ s. waits-on f (eqb-true (x .result .answer) 0 (both (eqb (x .result .answer) 0) (sameOpen (x .result .answered) noOpen) s .0)) (rw (f, s)))
+    (λ s. waits-on f (eqb-true (x .result .answer) 0 (parts (eqb (x .result .answer) 0) (sameOpen (x .result .answered) noOpen) s .0)) (rw (f, s)))
     (λ s. by-test (answers (through w x) x)
-    (λ a. let q = both (isAnswer (x .result .answer)) (sameOpen (x .result .answered) (grown (through w x))) a in
+    (λ a. let q = parts (isAnswer (x .result .answer)) (sameOpen (x .result .answered) (grown (through w x))) a in
     answered-now (q .0) (same-open (x .result .answered) (grown (through w x)) (q .1)))
     (λ a. absurd (n (rw (f, s, a))))))
 

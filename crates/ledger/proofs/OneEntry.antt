@@ -7,7 +7,7 @@ use native.Mathlib.Omega.{arith}
 use borrow.Author.Tests.{eq-eqb, eqb-true, leb-true, leb-false}
 use lib.Dec.{eqb, leb}
 use Rattle.table.specs.Choice.{pick}
-use Rattle.table.proofs.Laws.{by-test, by-pick}
+use Rattle.table.proofs.Laws.{by-test, by-pick, parts}
 use Rattle.table.specs.Refusals.{badEvent}
 use Rattle.event.specs.Names.{txOpen, tick, aipReceived, mostWait}
 use Rattle.event.specs.Table.{openOf, knownOf}
@@ -25,7 +25,6 @@ use Rattle.laws.proofs.Refusals.{moves, taken-exactly}
 use Rattle.laws.proofs.Shapes.{by-shape}
 use Rattle.laws.proofs.OneStep.{Stepping, wait-known, open-known, at-least-one}
 use Rattle.laws.proofs.ByEvent.{runs5}
-use Rattle.laws.proofs.Tests.{both}
 use Rattle.laws.proofs.Steps.{by-way}
 use Rattle.laws.proofs.Answers.{by-tally}
 use Rattle.ledger.specs.Log.{Entry, entry, taken, accepted, answered, ticked, tickedInP2, heardAip}
@@ -147,7 +146,7 @@ module _ (p : Phy) (e : Event) (v : validOf p ≡ true) (k : knownOf e ≡ true)
       by-tally (Agrees (moveOf p e .next) (book free x)) p e (moveOf p e) (s .tally)
       (λ w _ _. absurd (false≢true (sym a ∙ w)))
       (λ w _ _. absurd (false≢true (sym a ∙ w)))
-      (λ _ u t. rw (is-silent x (t .silent) (t .none), t .opens) (record { waits-too = u; request = t .request ∙ grown-begins x (wait-known (openOf e) (open-known e k (eqb-true (e .code) txOpen (both (eqb (e .code) txOpen) (eqb (moveOf p e .refusal) 0) (t .opens) .0)))); in-time = omega (arith, t .soon) }))
+      (λ _ u t. rw (is-silent x (t .silent) (t .none), t .opens) (record { waits-too = u; request = t .request ∙ grown-begins x (wait-known (openOf e) (open-known e k (eqb-true (e .code) txOpen (parts (eqb (e .code) txOpen) (eqb (moveOf p e .refusal) 0) (t .opens) .0)))); in-time = omega (arith, t .soon) }))
       (λ _ u n. rw (is-silent x (n .silent) (n .none), n .opens) u)
   agree-moved (waiting w) a s =
       by-tally (Agrees (moveOf p e .next) (book (waiting w) x)) p e (moveOf p e) (s .tally)
