@@ -1,0 +1,3 @@
+pub mod Copying
+pub mod Decimal
+pub mod Parts
