@@ -1,3 +1,6 @@
 pub mod Copying
 pub mod Decimal
 pub mod Parts
+pub mod Determined
+pub mod Ends
+pub mod Whole

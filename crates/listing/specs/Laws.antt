@@ -1,12 +1,22 @@
 -- What is promised of a listing beyond the contracts. Each statement is proved in proofs/ under the name given beside it.
-use Prim.Native.Nat.{ℕ}
-use mathlib.Core.List.{List}
+use Prim.Native.Nat.{ℕ, zero, suc, _+_, _-_, _^_, _≤_, _<_}
+use mathlib.Core.List.{List, [], _∷_, _++_}
+use mathlib.Core.Logic.{_↔_}
 use mathlib.Core.Path.{_≡_}
-use Rattle.listing.specs.Contracts.{StartsListing, WritesLine}
+use lib.ListN.{length}
+use Rattle.table.specs.Refusals.{noRoom}
+use Rattle.listing.specs.Text.{mostLine}
+use Rattle.listing.specs.Listing.{Lists, lineOf, none, startOf, lineAt, mostTrace}
+use Rattle.listing.specs.Contracts.{StartsListing, WritesLine, wrote, refused, tellsWritten}
 use Rattle.listing.specs.declared.Progress.{Progress}
+use Rattle.listing.specs.declared.Progress.the-variants.{Header, Events, TooLong, Done}
 use Rattle.listing.specs.declared.LineWritten.{LineWritten}
 
 -- ---- each answer says one thing (proofs/Determined)
+
+-- no two answers of `next_line` say the same
+abbrev pub WrittenTellsOnce : Type 0
+WrittenTellsOnce = (r q : LineWritten) → tellsWritten r ≡ tellsWritten q → r ≡ q
 
 -- two results that `start` may give coincide
 abbrev pub StartDetermined : Type 0
@@ -17,3 +27,53 @@ abbrev pub LineDetermined : Type 0
 LineDetermined =
     (s : List ℕ) (progress : Progress) (before : List ℕ) (at : ℕ) (r q : LineWritten) (after later : List ℕ)
     → WritesLine s progress before at r after → WritesLine s progress before at q later → (r ≡ q) × (after ≡ later)
+
+-- ---- line by line (proofs/Ends)
+
+-- how many lines may still come
+abbrev pub linesLeft : List ℕ → Progress → ℕ
+linesLeft s Header = suc (suc (length s))
+linesLeft s (Events place count p) = suc (length s - place)
+linesLeft s TooLong = 1
+linesLeft s Done = 0
+
+-- each line leaves fewer
+abbrev pub LinesFall : Type 0
+LinesFall = (s : List ℕ) (progress : Progress) (bytes : List ℕ) (next : Progress) → lineAt s progress ≡ lineOf bytes next → linesLeft s next < linesLeft s progress
+
+-- a line written leaves fewer, whoever wrote it
+abbrev pub WrittenFall : Type 0
+WrittenFall =
+    (s : List ℕ) (progress : Progress) (before : List ℕ) (at : ℕ) (r : LineWritten) (after : List ℕ) (next : Progress) (n : ℕ)
+    → WritesLine s progress before at r after → tellsWritten r ≡ wrote next n → (linesLeft s next < linesLeft s progress) × (at + n ≤ length before)
+
+-- a buffer with room for the longest line does not refuse one
+abbrev pub RoomEnough : Type 0
+RoomEnough =
+    (s : List ℕ) (progress : Progress) (before : List ℕ) (at : ℕ) (r : LineWritten) (after : List ℕ)
+    → WritesLine s progress before at r after → tellsWritten r ≡ refused noRoom → length before < at + mostLine
+
+-- ---- the whole listing (proofs/Whole)
+
+-- the lines from a progress on, end to end
+pub data Lines (s : List ℕ) : Progress → List ℕ → Type 0 where
+  over : {progress : Progress} → lineAt s progress ≡ none → Lines s progress []
+  more :
+      {progress next : Progress} {bytes others : List ℕ}
+      → lineAt s progress ≡ lineOf bytes next → Lines s next others → Lines s progress (bytes ++ others)
+
+-- every trace has a listing
+pub record Listed (s : List ℕ) : Type 0 where
+  pub bytes : List ℕ
+  pub lists : Lists s bytes
+
+abbrev pub ListingExists : Type 0
+ListingExists = (s : List ℕ) → Listed s
+
+-- and only one
+abbrev pub ListingOnce : Type 0
+ListingOnce = (s bytes others : List ℕ) → Lists s bytes → Lists s others → bytes ≡ others
+
+-- the lines from the start on are the listing, and nothing else is
+abbrev pub LinesAreListing : Type 0
+LinesAreListing = (s bytes : List ℕ) → Lines s (startOf (length s)) bytes ↔ Lists s bytes
