@@ -1,10 +1,10 @@
 -- The invariant of the copy: what is left of the part, stored from here, makes the buffer what it shall be.
 use Prim.Native.Nat.{ℕ, suc, _+_, _≤_, _<_}
-use mathlib.Core.List.{List, [], _∷_}
+use mathlib.Core.List.{List, _∷_}
 use mathlib.Core.Path.{_≡_, refl, sym, ap, _∙_}
 use native.Mathlib.Numerals.{add-one}
 use native.Mathlib.Omega.{arith}
-use lib.ListN.{length, drop, getD, set, length-set, length-drop, drop-of-length-le}
+use lib.ListN.{length, drop, getD, set, length-set, drop-of-length-le}
 use lib.Seq.{sets, drop-cons}
 
 pub record Copying (before : List ℕ) (place : ℕ) (part buffer : List ℕ) (at i : ℕ) : Type 0 where

@@ -1,57 +1,52 @@
 -- A listing ends: an event read moves the place on within the trace, and every other line is the last.
 use Prim.Native.Nat.{ℕ, suc, _+_, _-_, _≤_, _<_}
-use mathlib.Core.Bool.{Bool, true, false}
 use mathlib.Core.List.{List}
 use mathlib.Core.Path.{_≡_, refl, sym, subst, _∙_}
 use native.Mathlib.Omega.{arith}
 use borrow.Author.Tests.{leb-true, leb-false}
 use lib.ListN.{length}
-use Rattle.table.specs.Choice.{pick}
 use Rattle.table.specs.Refusals.{noRoom}
 use Rattle.table.proofs.Laws.{by-test}
 use Rattle.trace.specs.Reading.{Told, event, end, readEvent}
 use Rattle.trace.specs.Reading as reading
 use Rattle.trace.specs.Laws.{MovesOn}
 use Rattle.trace.proofs.Accepted.{read-moves-on}
-use Rattle.phy.specs.State.{freshPhy}
 use Rattle.phy.specs.declared.Phy.{Phy}
 use Rattle.listing.specs.Text.{mostLine}
 use Rattle.listing.specs.Listing.{Next, lineOf, none, afterReading, lineAt}
-use Rattle.listing.specs.Contracts.{ToldWritten, wrote, finished, refused, fits, bytesOf, writeNext}
+use Rattle.listing.specs.Contracts.{wrote, refused, fits, bytesOf, writeNext}
 use Rattle.listing.specs.Laws.{linesLeft, LinesFall, WrittenFall, RoomEnough}
 use Rattle.listing.specs.declared.Progress.{Progress}
 use Rattle.listing.specs.declared.Progress.the-variants.{Header, Events, TooLong, Done}
 
--- the progress after a line is the one given
-same-next : {bytes others : List ℕ} {next progress : Progress} → lineOf bytes next ≡ lineOf others progress → next ≡ progress
-same-next e = cc
-
--- what holds of the progress that is given holds of the one after the line
-after-line : (P : Progress → Type 0) {bytes others : List ℕ} {next progress : Progress} → lineOf bytes next ≡ lineOf others progress → P next → P progress
-after-line P e h = subst P (same-next e) h
+-- the progress after a line is the one that the line gives
+after-line : (s : List ℕ) (k : ℕ) {bytes others : List ℕ} {next progress : Progress} → lineOf bytes next ≡ lineOf others progress → linesLeft s next < k → linesLeft s progress < k
+after-line s k {next = next} {progress = progress} e h =
+    let same : next ≡ progress = cc in
+    subst (λ (p : Progress). linesLeft s p < k) same h
 
 fall : (s : List ℕ) (place count : ℕ) (p : Phy) (t : Told) → readEvent s place ≡ t → {bytes : List ℕ} {next : Progress}
     → afterReading place count p t ≡ lineOf bytes next → linesLeft s next < suc (length s - place)
 fall s place count p (event e after) h l =
     let m : MovesOn s place after = read-moves-on s place e after h in
-    after-line (λ (n : Progress). linesLeft s n < suc (length s - place)) l (omega (arith, m .forward, m .within))
-fall s place count p end h l = after-line (λ (n : Progress). linesLeft s n < suc (length s - place)) l (omega arith)
-fall s place count p (reading.refused n at) h l = after-line (λ (n : Progress). linesLeft s n < suc (length s - place)) l (omega arith)
+    after-line s _ l (omega (arith, m .forward, m .within))
+fall s place count p end h l = after-line s _ l (omega arith)
+fall s place count p (reading.refused n at) h l = after-line s _ l (omega arith)
 
 pub lines-fall : LinesFall
 unfolding lineAt
-lines-fall s Header bytes next e = after-line (λ (n : Progress). linesLeft s n < suc (suc (length s))) e (omega arith)
+lines-fall s Header bytes next e = after-line s _ e (omega arith)
 lines-fall s (Events place count p) bytes next e = fall s place count p (readEvent s place) refl e
-lines-fall s TooLong bytes next e = after-line (λ (n : Progress). linesLeft s n < 1) e (omega arith)
+lines-fall s TooLong bytes next e = after-line s _ e (omega arith)
 lines-fall s Done bytes next e = let z : _≡_ {A = ℕ} 0 1 = cc in absurd (omega arith)
 
 -- what is said to be written is the line that comes next, and it fits
-pub record Wrote (x : Next) (before : List ℕ) (at : ℕ) (next : Progress) (n : ℕ) : Type 0 where
-  pub bytes : List ℕ
-  pub comes : x ≡ lineOf bytes next
-  pub room : at + n ≤ length before
+record Wrote (x : Next) (before : List ℕ) (at : ℕ) (next : Progress) (n : ℕ) : Type 0 where
+  bytes : List ℕ
+  comes : x ≡ lineOf bytes next
+  room : at + n ≤ length before
 
-pub wrote-line : (x : Next) (before : List ℕ) (at : ℕ) (next : Progress) (n : ℕ) → writeNext x before at ≡ wrote next n → Wrote x before at next n
+wrote-line : (x : Next) (before : List ℕ) (at : ℕ) (next : Progress) (n : ℕ) → writeNext x before at ≡ wrote next n → Wrote x before at next n
 wrote-line (lineOf bytes progress) before at next n e =
     by-test (fits bytes before at)
     (λ t.

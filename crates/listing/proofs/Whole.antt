@@ -1,6 +1,5 @@
 -- The lines from the start on are the listing: each line of the one is a line of the other, and the count goes round for no trace that is listed.
 use Prim.Native.Nat.{ℕ, zero, suc, _≤_, _<_}
-use mathlib.Core.Bool.{true, false}
 use mathlib.Core.List.{List, [], _++_, append-nil}
 use mathlib.Core.Path.{_≡_, refl, sym, ap, ap₂, subst, _∙_}
 use native.Mathlib.Omega.{arith}
@@ -17,7 +16,7 @@ use Rattle.phy.specs.State.{freshPhy}
 use Rattle.phy.specs.declared.Phy.{Phy}
 use Rattle.listing.specs.Listing.{mostTrace, ListsFrom, ended, stopped, taken, Lists, listed, tooLong, Next, lineOf, none, startOf, oneMore, afterReading, lineAt}
 use Rattle.listing.specs.Lines.{headerLine, eventLine}
-use Rattle.listing.specs.Laws.{linesLeft, Lines, over, more, Listed, ListingExists, ListingOnce, LinesAreListing}
+use Rattle.listing.specs.Laws.{linesLeft, Lines, over, more, ListingExists, ListingOnce, LinesAreListing}
 use Rattle.listing.specs.declared.Progress.{Progress}
 use Rattle.listing.specs.declared.Progress.the-variants.{Header, Events, TooLong, Done}
 use Rattle.listing.proofs.Ends.{lines-fall}
@@ -38,9 +37,9 @@ lines-once q (more {next = next} {bytes = first} e l) (more {next = last} {bytes
     let same : next ≡ last = cc in
     ap₂ _++_ bytes (lines-once same l m)
 
-pub record SomeLines (s : List ℕ) (progress : Progress) : Type 0 where
-  pub bytes : List ℕ
-  pub lines : Lines s progress bytes
+record SomeLines (s : List ℕ) (progress : Progress) : Type 0 where
+  bytes : List ℕ
+  lines : Lines s progress bytes
 
 -- a line and what comes after it
 one-line : (s : List ℕ) (progress : Progress) (x : Next) → lineAt s progress ≡ x

@@ -1,12 +1,12 @@
 -- What is promised of a listing beyond the contracts. Each statement is proved in proofs/ under the name given beside it.
-use Prim.Native.Nat.{ℕ, zero, suc, _+_, _-_, _^_, _≤_, _<_}
-use mathlib.Core.List.{List, [], _∷_, _++_}
+use Prim.Native.Nat.{ℕ, suc, _+_, _-_, _≤_, _<_}
+use mathlib.Core.List.{List, [], _++_}
 use mathlib.Core.Logic.{_↔_}
 use mathlib.Core.Path.{_≡_}
 use lib.ListN.{length}
 use Rattle.table.specs.Refusals.{noRoom}
 use Rattle.listing.specs.Text.{mostLine}
-use Rattle.listing.specs.Listing.{Lists, lineOf, none, startOf, lineAt, mostTrace}
+use Rattle.listing.specs.Listing.{Lists, lineOf, none, startOf, lineAt}
 use Rattle.listing.specs.Contracts.{StartsListing, WritesLine, wrote, refused, tellsWritten}
 use Rattle.listing.specs.declared.Progress.{Progress}
 use Rattle.listing.specs.declared.Progress.the-variants.{Header, Events, TooLong, Done}

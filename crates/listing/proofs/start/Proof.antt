@@ -1,5 +1,6 @@
 -- `listing::start` meets its contract: its test is the definition's.
 use mathlib.Core.Path.{refl}
+use native.Mathlib.Omega.{arith}
 use borrow.Author.Tests.{le-leb, lt-leb}
 use Rattle.listing.specs.Listing.{mostTrace}
 use Rattle.listing.proofs.start.Statement.{statement}
@@ -9,5 +10,5 @@ pub start-spec : {M : Type 1} → statement M
 start-spec =
     tie.close
     (tie.spec
-    (λ c. rw (le-leb (c .before .args .length) mostTrace (c .if1 .taken)) refl)
-    (λ c. rw (lt-leb (c .before .args .length) mostTrace (c .if1 .left)) refl))
+    (λ c. rw (le-leb (c .before .args .length) mostTrace (omega arith)) refl)
+    (λ c. rw (lt-leb (c .before .args .length) mostTrace (omega arith)) refl))

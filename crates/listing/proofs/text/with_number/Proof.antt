@@ -1,6 +1,6 @@
 -- `listing::text::with_number` meets its contract: the digits that `io::decimal` gives are the number's, twenty at most.
 use Prim.Native.Nat.{_≤_}
-use mathlib.Core.Path.{_≡_, refl, sym, _∙_}
+use mathlib.Core.Path.{_≡_, _∙_}
 use mathlib.Core.List.{append-assoc}
 use native.Mathlib.Omega.{arith}
 use borrow.Author.Needs.{needs}
