@@ -4,24 +4,21 @@ ghost use mathlib.Core.Path.{_≡_};
 ghost use lib.ListN.{length};
 use listing::LineWritten;
 
-// The longest trace that is listed, and so as much of the input as is kept.
-const MOST_TRACE: usize = 65536;
-
-// How long the input is of which this many bytes were kept. One byte more than are kept is enough to
-// know that it is too long.
+// How long the input is of which this many bytes were kept. One byte more is enough to know that it is
+// too long.
 fn total(kept: usize) -> usize {
-    if kept < MOST_TRACE {
+    if kept < listing::MOST_TRACE {
         return kept;
     }
     let mut more = [0u8; 1];
     if io::read_full(0, &mut more) == 0 {
         return kept;
     }
-    MOST_TRACE + 1
+    listing::MOST_TRACE + 1
 }
 
-// Lists a trace; `total` says how long the input was, which may be longer. The lines are gathered in `out`, which
-// is written when it has no room for the next one. Where a write fails the listing stops.
+// Lists a trace; `total` says how long the input was, which may be longer. The lines are gathered in
+// `out`, which is written when it has no room for the next one. Where a write fails the listing stops.
 fn list(trace: &[u8], total: usize, out: &mut [u8])
     requires { ⌜ 65536 ≡ length (now out) ⌝ }
 {

@@ -19,11 +19,11 @@ use Rattle.listing.specs.Lines.{headerLine, eventLine}
 use Rattle.listing.specs.Laws.{linesLeft, Lines, over, more, ListingExists, ListingOnce, LinesAreListing}
 use Rattle.listing.specs.declared.Progress.{Progress}
 use Rattle.listing.specs.declared.Progress.the-variants.{Header, Events, TooLong, Done}
-use Rattle.listing.proofs.Ends.{lines-fall}
+use Rattle.listing.proofs.Ends.{clash, lines-fall}
 
 -- no line is nothing
 no-line : {bytes : List ℕ} {next : Progress} → lineOf bytes next ≡ none → ⊥
-no-line e = let z : _≡_ {A = ℕ} 0 1 = cc in omega arith
+no-line e = clash (cc)
 
 -- ---- the lines are a function of the progress, and end
 

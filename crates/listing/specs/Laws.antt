@@ -41,11 +41,15 @@ linesLeft s Done = 0
 abbrev pub LinesFall : Type 0
 LinesFall = (s : List ℕ) (progress : Progress) (bytes : List ℕ) (next : Progress) → lineAt s progress ≡ lineOf bytes next → linesLeft s next < linesLeft s progress
 
--- a line written leaves fewer, whoever wrote it
-abbrev pub WrittenFall : Type 0
-WrittenFall =
+-- a line written leaves fewer, and lies within the buffer
+pub record Advances (s : List ℕ) (progress next : Progress) (before : List ℕ) (at n : ℕ) : Type 0 where
+  pub fewer : linesLeft s next < linesLeft s progress
+  pub within : at + n ≤ length before
+
+abbrev pub WrittenAdvances : Type 0
+WrittenAdvances =
     (s : List ℕ) (progress : Progress) (before : List ℕ) (at : ℕ) (r : LineWritten) (after : List ℕ) (next : Progress) (n : ℕ)
-    → WritesLine s progress before at r after → tellsWritten r ≡ wrote next n → (linesLeft s next < linesLeft s progress) × (at + n ≤ length before)
+    → WritesLine s progress before at r after → tellsWritten r ≡ wrote next n → Advances s progress next before at n
 
 -- a buffer with room for the longest line does not refuse one
 abbrev pub RoomEnough : Type 0

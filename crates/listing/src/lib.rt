@@ -6,16 +6,17 @@ mod text;
 ghost use mathlib.Core.List.{List};
 ghost use Prim.Native.Nat.{ℕ, _≤_};
 ghost use Rattle.listing.specs.Text.{Holds, mostLine};
+ghost use Rattle.listing.specs.Lines.{stopLine};
 ghost use Rattle.listing.specs.Listing.{lineOf, afterReading};
-ghost use Rattle.listing.specs.Contracts.{StartsListing, WritesLine};
-ghost use Rattle.listing.specs.Contracts.{PutsLine as Contracts·PutsLine};
+ghost use Rattle.listing.specs.Contracts.{StartsListing, PutsLine, WritesLine};
+ghost use Rattle.listing.specs.declared.Progress.the-variants.{Done as Progress·Done};
 ghost use Rattle.trace.specs.Reading.{readEvent};
 use phy::Phy;
 use text::Text;
 use trace::EventRead;
 
 // A longer trace is not listed.
-const MOST_TRACE: usize = 65536;
+pub const MOST_TRACE: usize = 65536;
 
 // What the next line is of: the header, what stands at a place of the trace, a trace that is too long,
 // or nothing more.
@@ -47,7 +48,7 @@ pub fn start(length: usize) -> Progress
 // A line's text at a place of a buffer, if all of it fits.
 fn put_line(text: Text, next: Progress, out: &mut [u8], at: usize) -> LineWritten
     requires { ⌜ text .length ≤ mostLine ⌝ }
-    ensures { λ r. ⌜ ((bytes : List ℕ) → Holds text bytes → Contracts·PutsLine (lineOf bytes next) (now (out .entry)) at r (now (out .exit))) ⌝ }
+    ensures { λ r. ⌜ ((bytes : List ℕ) → Holds text bytes → PutsLine (lineOf bytes next) (now (out .entry)) at r (now (out .exit))) ⌝ }
 {
     let length = text.length;
     if out.len() < at {
@@ -61,6 +62,13 @@ fn put_line(text: Text, next: Progress, out: &mut [u8], at: usize) -> LineWritte
     LineWritten::Line { next, length }
 }
 
+// The line of a fault, after which nothing comes.
+fn put_stop(place: usize, refusal: u8, out: &mut [u8], at: usize) -> LineWritten
+    ensures { λ r. ⌜ PutsLine (lineOf (stopLine place refusal) Progress·Done) (now (out .entry)) at r (now (out .exit)) ⌝ }
+{
+    put_line(lines::stop_line(place, refusal), Progress::Done, out, at)
+}
+
 // The line of what stands at a place: an event, the trace's end or a fault.
 fn next_event(
     trace: &[u8],
@@ -70,7 +78,7 @@ fn next_event(
     out: &mut [u8],
     at: usize,
 ) -> LineWritten
-    ensures { λ r. ⌜ Contracts·PutsLine (afterReading place count phy (readEvent (now (trace .entry)) place)) (now (out .entry)) at r (now (out .exit)) ⌝ }
+    ensures { λ r. ⌜ PutsLine (afterReading place count phy (readEvent (now (trace .entry)) place)) (now (out .entry)) at r (now (out .exit)) ⌝ }
 {
     match trace::read_event(trace, place) {
         EventRead::Event { event, next } => {
@@ -84,31 +92,10 @@ fn next_event(
             put_line(lines::event_line(place, event, stepped), progress, out, at)
         }
         EventRead::End => put_line(lines::end_line(place, count), Progress::Done, out, at),
-        EventRead::BadEvent => {
-            put_line(
-                lines::stop_line(place, table::BAD_EVENT),
-                Progress::Done,
-                out,
-                at,
-            )
-        }
-        EventRead::Cut => put_line(lines::stop_line(place, table::CUT), Progress::Done, out, at),
-        EventRead::Overlong => {
-            put_line(
-                lines::stop_line(place, table::OVERLONG),
-                Progress::Done,
-                out,
-                at,
-            )
-        }
-        EventRead::TooLarge => {
-            put_line(
-                lines::stop_line(place, table::TOO_LARGE),
-                Progress::Done,
-                out,
-                at,
-            )
-        }
+        EventRead::BadEvent => put_stop(place, table::BAD_EVENT, out, at),
+        EventRead::Cut => put_stop(place, table::CUT, out, at),
+        EventRead::Overlong => put_stop(place, table::OVERLONG, out, at),
+        EventRead::TooLarge => put_stop(place, table::TOO_LARGE, out, at),
     }
 }
 

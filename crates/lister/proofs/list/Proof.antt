@@ -4,9 +4,9 @@ use mathlib.Core.Path.{_≡_, ap}
 use native.Mathlib.Omega.{arith}
 use borrow.Author.Needs.{needs}
 use lib.ListN.{length}
-use Rattle.listing.specs.Laws.{linesLeft}
+use Rattle.listing.specs.Laws.{linesLeft, Advances}
 use Rattle.listing.specs.Contracts.{tellsWritten}
-use Rattle.listing.proofs.Ends.{written-fall, room-enough}
+use Rattle.listing.proofs.Ends.{written-advances, room-enough}
 use Rattle.lister.proofs.list.Statement.{statement}
 use Rattle.lister.proofs.list.Tie as tie
 
@@ -17,19 +17,19 @@ abbrev μ-loop : tie.MeasureT-loop
 μ-loop trace total out₀ progress₀ n₀ out progress n = linesLeft trace progress * 65537 + n
 
 -- a line that was written leaves fewer, and it fitted
-wrote : (c : tie.After-known-told Inv-loop μ-loop)
-    → (linesLeft (c .before .before .before .before .before .before .before .before .before .before .before .args .trace .now) (c .before .next .given .0 .0) < linesLeft (c .before .before .before .before .before .before .before .before .before .before .before .args .trace .now) (c .before .before .before .before .before .before .before .loop .progress))
-    × (c .before .before .before .before .before .before .before .loop .n + c .before .next .given .0 .1 .0 ≤ length (c .before .before .before .before .before .before .before .loop .out))
-wrote c = written-fall _ _ _ _ _ _ _ _ (c .before .before .before .before .before .next-line .ensures) (ap tellsWritten (c .before .next .given .1))
+advances : (c : tie.After-known-told Inv-loop μ-loop)
+    → Advances (c .before .before .before .before .before .before .before .before .before .before .before .args .trace .now) (c .before .before .before .before .before .before .before .loop .progress) (c .before .next .given .0 .0) (c .before .before .before .before .before .before .before .loop .out)
+    (c .before .before .before .before .before .before .before .loop .n) (c .before .next .given .0 .1 .0)
+advances c = written-advances _ _ _ _ _ _ _ _ (c .before .before .before .before .before .next-line .ensures) (ap tellsWritten (c .before .next .given .1))
 
 add-n : tie.Need-add-n Inv-loop μ-loop
-add-n c = omega (arith, wrote c .1)
+add-n c = omega (arith, advances c .within)
 
 loop-less : tie.Need-loop-less Inv-loop μ-loop
-loop-less c = omega (arith, wrote c .0, wrote c .1)
+loop-less c = omega (arith, advances c .fewer, advances c .within)
 
 loop-again : tie.Need-loop-again Inv-loop μ-loop
-loop-again c = (search needs, omega (arith, wrote c .1))
+loop-again c = (search needs, omega (arith, advances c .within))
 
 -- without room something is gathered
 gathered : (c : tie.After-enum-told Inv-loop μ-loop) → 0 < c .before .before .before .before .before .before .loop .n

@@ -19,16 +19,16 @@ returns-2 : tie.Need-returns-2
 returns-2 c = rw (read (c .before .before .before .before .before .before .before) (c .before .before .before .before .before .enum-told .given .1)) (c .before .before .put-line2 .ensures _ (c .before .before .before .before .end-line .ensures))
 
 returns-3 : tie.Need-returns-3
-returns-3 c = rw (read (c .before .before .before .before .before .before .before) (c .before .before .before .before .before .enum-told2 .given .1)) (c .before .before .put-line3 .ensures _ (c .before .before .before .before .stop-line .ensures))
+returns-3 c = rw (read (c .before .before .before .before .before .before) (c .before .before .before .before .enum-told2 .given .1)) (c .before .before .put-stop .ensures)
 
 returns-4 : tie.Need-returns-4
-returns-4 c = rw (read (c .before .before .before .before .before .before .before) (c .before .before .before .before .before .enum-told3 .given .1)) (c .before .before .put-line4 .ensures _ (c .before .before .before .before .stop-line2 .ensures))
+returns-4 c = rw (read (c .before .before .before .before .before .before) (c .before .before .before .before .enum-told3 .given .1)) (c .before .before .put-stop2 .ensures)
 
 returns-5 : tie.Need-returns-5
-returns-5 c = rw (read (c .before .before .before .before .before .before .before) (c .before .before .before .before .before .enum-told4 .given .1)) (c .before .before .put-line5 .ensures _ (c .before .before .before .before .stop-line3 .ensures))
+returns-5 c = rw (read (c .before .before .before .before .before .before) (c .before .before .before .before .enum-told4 .given .1)) (c .before .before .put-stop3 .ensures)
 
 returns-6 : tie.Need-returns-6
-returns-6 c = rw (read (c .before .before .before .before .before .before .before) (c .before .before .before .before .before .enum-told5 .given .1)) (c .before .before .put-line6 .ensures _ (c .before .before .before .before .stop-line4 .ensures))
+returns-6 c = rw (read (c .before .before .before .before .before .before) (c .before .before .before .before .enum-told5 .given .1)) (c .before .before .put-stop4 .ensures)
 
 pub next-event-spec : {M : Type 1} → statement M
 next-event-spec =
@@ -45,16 +45,12 @@ next-event-spec =
     (λ c κs. search needs)
     (λ c. search needs)
     (λ _ _. tt)
-    (λ c κs. search needs)
     (λ c. search needs)
     (λ _ _. tt)
-    (λ c κs. search needs)
     (λ c. search needs)
     (λ _ _. tt)
-    (λ c κs. search needs)
     (λ c. search needs)
     (λ _ _. tt)
-    (λ c κs. search needs)
     (λ c. search needs)
     returns
     (λ c. search needs)
