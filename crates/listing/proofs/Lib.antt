@@ -4,3 +4,4 @@ pub mod Parts
 pub mod Determined
 pub mod Ends
 pub mod Whole
+pub mod LastLine

@@ -5,8 +5,11 @@ use mathlib.Core.Logic.{_↔_}
 use mathlib.Core.Path.{_≡_}
 use lib.ListN.{length}
 use Rattle.table.specs.Refusals.{noRoom}
+use Rattle.event.specs.declared.Event.{Event}
+use Rattle.trace.specs.Laws.{ReadsAll}
 use Rattle.listing.specs.Text.{mostLine}
-use Rattle.listing.specs.Listing.{Lists, lineOf, none, startOf, lineAt}
+use Rattle.listing.specs.Lines.{endLine}
+use Rattle.listing.specs.Listing.{mostTrace, Lists, lineOf, none, startOf, lineAt}
 use Rattle.listing.specs.Contracts.{StartsListing, WritesLine, wrote, refused, tellsWritten}
 use Rattle.listing.specs.declared.Progress.{Progress}
 use Rattle.listing.specs.declared.Progress.the-variants.{Header, Events, TooLong, Done}
@@ -81,3 +84,13 @@ ListingOnce = (s bytes others : List ℕ) → Lists s bytes → Lists s others �
 -- the lines from the start on are the listing, and nothing else is
 abbrev pub LinesAreListing : Type 0
 LinesAreListing = (s bytes : List ℕ) → Lines s (startOf (length s)) bytes ↔ Lists s bytes
+
+-- ---- the last line (proofs/LastLine)
+
+pub record EndsWith (bytes last : List ℕ) : Type 0 where
+  pub front : List ℕ
+  pub whole : bytes ≡ front ++ last
+
+-- the listing of a trace that is read to its end without a fault ends with the trace's length and the number of its events
+abbrev pub EndTells : Type 0
+EndTells = (s bytes : List ℕ) (es : List Event) → length s ≤ mostTrace → ReadsAll s 0 es → Lists s bytes → EndsWith bytes (endLine (length s) (length es))

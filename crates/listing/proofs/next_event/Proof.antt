@@ -12,8 +12,8 @@ read c e = sym (c .read-event .ensures) ∙ ap (tells (c .before .before .before
 
 returns : tie.Need-returns
 returns c =
-    rw (read (c .before .before .before .before .before .before .before .before .before .before .before) (c .before .before .before .before .before .before .before .before .before .event .given .1), ← c .before .before .before .before .before .before .before .step .ensures, ← c .before .before .before .before .before .wrapping-add-u64 .ensures)
-    (c .before .before .put-line .ensures _ (c .before .before .before .before .event-line .ensures))
+    rw (read (c .before .before .before .before .before .before .before .before .before .before .before) (c .before .before .before .before .before .before .before .before .before .event .given .1), ← c .before .before .before .before .before .before .before .step .ensures)
+    (rw (c .before .before .before .before .before .wrapping-add-u64 .ensures) at (c .before .before .put-line .ensures _ (c .before .before .before .before .event-line .ensures)))
 
 returns-2 : tie.Need-returns-2
 returns-2 c = rw (read (c .before .before .before .before .before .before .before) (c .before .before .before .before .before .enum-told .given .1)) (c .before .before .put-line2 .ensures _ (c .before .before .before .before .end-line .ensures))
