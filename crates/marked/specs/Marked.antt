@@ -9,11 +9,11 @@ use Rattle.number.specs.Reading.{Told, value, refused, readNumber}
 use Rattle.number.specs.Writing.{numberBytes}
 use Rattle.dws.specs.Names.{syncAcquired, acquireSync, invalid, dataDword, primitive}
 use Rattle.dws.specs.Laws.{run}
-use Rattle.event.specs.Names.{SSP, slowRate, txOpen, cancelOpen, acceptOpens, openReceived, aipReceived, breakReceived, tick}
+use Rattle.event.specs.Names.{SSP, cancelOpen, acceptOpens, openReceived, aipReceived, breakReceived, tick}
 use Rattle.event.specs.declared.Event.{Event}
 use Rattle.phy.specs.Names.{collided, openedByDestination, openedByOther, openTimeout, portLayerRequest}
 use Rattle.ledger.specs.Log.{Entry, answered, ticked}
-use Rattle.ledger.specs.Demand.{plain, logOf}
+use Rattle.ledger.specs.Demand.{plain, openTo, logOf}
 
 -- a case: its number, what the definitions give, what the paper says
 pub record Case : Type 0 where
@@ -22,10 +22,6 @@ pub record Case : Type 0 where
   pub said : List ℕ
 
 -- ---- events
-
--- a Tx Open to a destination, its wait 0
-abbrev pub openTo : ℕ → Event
-openTo destination = record { code = txOpen; first = destination; second = SSP; third = slowRate; fourth = 0; fifth = 0; sixth = 0 }
 
 -- an OPEN received from a source
 abbrev pub openFrom : ℕ → Event
@@ -59,7 +55,7 @@ numbersOf (refused n) = n ∷ []
 unfoldable pub answersTo : List Event → List ℕ
 answersTo es = answersIn (logOf es)
 
--- the same with the tick of each
+-- the answers, each with its tick
 unfoldable pub answersTimed : List Event → List ℕ
 answersTimed es = answersAt 0 (logOf es)
 
