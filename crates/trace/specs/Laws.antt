@@ -23,9 +23,9 @@ use Rattle.trace.specs.declared.Reader.{Reader}
 
 -- ---- each answer says one thing (proofs/Determined)
 
--- no two answers of the reader at a place say the same
+-- no two answers of the reader say the same
 abbrev pub ReadTellsOnce : Type 0
-ReadTellsOnce = (place : ℕ) (r q : EventRead) → tells place r ≡ tells place q → r ≡ q
+ReadTellsOnce = (r q : EventRead) → tells r ≡ tells q → r ≡ q
 
 -- no two answers of the writer say the same
 abbrev pub WrittenTellsOnce : Type 0

@@ -76,11 +76,11 @@ placeReached place (event e next) = next
 placeReached place end = place
 placeReached place (refused n at) = place
 
--- what each answer at a place says, as the paper numbers it
-abbrev pub tells : (place : ℕ) → EventRead → Told
-tells place (Known e next) = event e next
-tells place End = end
-tells place BadEvent = refused badEvent place
-tells place Cut = refused cut place
-tells place Overlong = refused overlong place
-tells place TooLarge = refused tooLarge place
+-- what each answer says, as the paper numbers it
+abbrev pub tells : EventRead → Told
+tells (Known e next) = event e next
+tells End = end
+tells (BadEvent first) = refused badEvent first
+tells (Cut first) = refused cut first
+tells (Overlong first) = refused overlong first
+tells (TooLarge first) = refused tooLarge first
