@@ -1,7 +1,9 @@
 // The case file through a window: what is not yet read of it moves to the front as it runs low, and
 // more is read behind it.
-ghost use Prim.Native.Nat.{_≤_};
+ghost use Prim.Native.Nat.{_≤_, min};
+ghost use mathlib.Core.Path.{_≡_};
 ghost use lib.ListN.{length};
+ghost use Rattle.casefile.specs.Contracts.{MovesToFront, Slides};
 
 // A case takes no more than this of the case file.
 const MOST_CASE: usize = 32768;
@@ -13,10 +15,16 @@ pub struct Ahead {
     pub ended: bool,
 }
 
+fn least(a: usize, b: usize) -> usize
+    ensures { λ r. ⌜ r ≡ min a b ⌝ }
+{
+    if a < b { a } else { b }
+}
+
 // Moves a part of the window to its front and answers how long it is.
 fn to_front(window: &mut [u8], from: usize, to: usize) -> usize
     requires { ⌜ (from ≤ to) × (to ≤ length (now window)) ⌝ }
-    ensures { λ r. ⌜ r ≤ length (now (window .exit)) ⌝ }
+    ensures { λ r. ⌜ MovesToFront (now (window .entry)) from to r (now (window .exit)) ⌝ }
 {
     let mut i = from;
     while i < to {
@@ -26,28 +34,26 @@ fn to_front(window: &mut [u8], from: usize, to: usize) -> usize
     to - from
 }
 
-// The window with a whole case ahead, as long as the file has one.
+// The window with a whole case ahead, as long as the file has one. Only what lies in the window counts
+// as ahead.
 pub fn slide(window: &mut [u8], ahead: Ahead) -> Ahead
-    ensures { λ r. ⌜ (r .from ≤ r .to) × (r .to ≤ length (now (window .exit))) ⌝ }
+    ensures { λ r. ⌜ Slides (now (window .entry)) ahead r (now (window .exit)) ⌝ }
 {
     let from = ahead.from;
-    let to = ahead.to;
-    if to <= from {
+    let to = least(ahead.to, window.len());
+    if to < from {
         return Ahead {
             from: 0,
             to: 0,
             ended: ahead.ended,
         };
     }
-    if window.len() < to {
-        return Ahead {
-            from: 0,
-            to: 0,
-            ended: true,
-        };
-    }
     if ahead.ended | (MOST_CASE <= to - from) {
-        return ahead;
+        return Ahead {
+            from,
+            to,
+            ended: ahead.ended,
+        };
     }
     let kept = to_front(window, from, to);
     let more = io::read_full(0, &mut window[kept..]);

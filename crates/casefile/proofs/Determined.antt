@@ -1,0 +1,66 @@
+-- Each contract equates the result, and the bytes left, with a definition of what was given, so two that it allows coincide.
+use mathlib.Core.Bool.{Bool, true, false}
+use mathlib.Core.Path.{_≡_, refl, sym, _∙_}
+use Rattle.casefile.specs.Records.{flag, flagOf}
+use Rattle.casefile.specs.Laws.{TakeDetermined, BytesDetermined, ManyDetermined, AllDetermined, MoreDetermined, NumbersDetermined, EndDetermined, LineDetermined, OutDetermined, PhyDetermined, PhyNumbersDetermined, EventDetermined, PhyBack}
+
+-- two that equal a third
+both : {A : Type 0} {a b c : A} → a ≡ c → b ≡ c → a ≡ b
+both p q = p ∙ sym q
+
+pub take-determined : TakeDetermined
+take-determined s place r q a b = both (a .says) (b .says)
+
+pub bytes-determined : BytesDetermined
+bytes-determined s place r q a b = both (a .says) (b .says)
+
+pub many-determined : ManyDetermined
+many-determined s before place r q after later a b = (both (a .there) (b .there), both (a .numbers) (b .numbers))
+
+pub all-determined : AllDetermined
+all-determined bytes before n r q after later a b = (both (a .puts .there) (b .puts .there), both (a .puts .stored) (b .puts .stored))
+
+pub more-determined : MoreDetermined
+more-determined numbers before n r q after later a b = (both (a .there) (b .there), both (a .stored) (b .stored))
+
+pub numbers-determined : NumbersDetermined
+numbers-determined first others before n r q after later a b = (both (a .there) (b .there), both (a .stored) (b .stored))
+
+pub end-determined : EndDetermined
+end-determined before n r q after later a b = (both (a .there) (b .there), both (a .stored) (b .stored))
+
+pub line-determined : LineDetermined
+line-determined first others before n r q after later a b = (both (a .there) (b .there), both (a .stored) (b .stored))
+
+pub out-determined : OutDetermined
+out-determined n least r q a b = both a b
+
+pub phy-determined : PhyDetermined
+phy-determined f r q a b = both a b
+
+pub phy-numbers-determined : PhyNumbersDetermined
+phy-numbers-determined p r q a b = both a b
+
+pub event-determined : EventDetermined
+event-determined f r q a b = both a b
+
+-- a flag is made again of its number
+flag-back : (b : Bool) → flagOf (flag b) ≡ b
+flag-back true = refl
+flag-back false = refl
+
+pub phy-back : PhyBack
+phy-back p =
+    λ i.
+    record {
+      link = p .link;
+      port = p .port;
+      timer = p .timer;
+      request = p .request;
+      reason = p .reason;
+      source = p .source;
+      inbound = p .inbound;
+      connection = p .connection;
+      closed = flag-back (p .closed) i;
+      settings = record { accept = flag-back (p .settings .accept) i };
+    }

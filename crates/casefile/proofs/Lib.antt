@@ -1,0 +1,5 @@
+pub mod Places
+pub mod Numbers
+pub mod Decimal
+pub mod Front
+pub mod Determined
