@@ -1,9 +1,9 @@
 // Cases of the crate `identify`: a walk of steps, each from the identification that the one before
 // gave.
 use casefile::Place;
-use casefile::text::put_line;
 use casefile::input::take;
 use casefile::input::take_many;
+use casefile::text::put_line;
 use identify::Identification;
 use identify::Stepped;
 

@@ -1,12 +1,12 @@
 // Cases of the crate `number`: reading at a place of a byte string, writing into a buffer.
 use casefile::Place;
+use casefile::input::take;
+use casefile::input::take_bytes;
 use casefile::text::end_line;
 use casefile::text::put_all;
 use casefile::text::put_bytes;
 use casefile::text::put_line;
 use casefile::text::put_numbers;
-use casefile::input::take;
-use casefile::input::take_bytes;
 
 // The buffers of the cases are no longer than this.
 const MOST_BUFFER: usize = 64;
