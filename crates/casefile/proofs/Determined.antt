@@ -2,7 +2,7 @@
 use mathlib.Core.Bool.{Bool, true, false}
 use mathlib.Core.Path.{_≡_, refl, sym, _∙_}
 use Rattle.casefile.specs.Records.{flag, flagOf}
-use Rattle.casefile.specs.Laws.{TakeDetermined, BytesDetermined, ManyDetermined, AllDetermined, MoreDetermined, NumbersDetermined, EndDetermined, LineDetermined, OutDetermined, PhyDetermined, PhyNumbersDetermined, EventDetermined, PhyBack}
+use Rattle.casefile.specs.Laws.{TakeDetermined, BytesDetermined, ManyDetermined, PhyDetermined, PhyNumbersDetermined, EventDetermined, PhyBack}
 
 -- two that equal a third
 both : {A : Type 0} {a b c : A} → a ≡ c → b ≡ c → a ≡ b
@@ -15,25 +15,7 @@ pub bytes-determined : BytesDetermined
 bytes-determined s place r q a b = both (a .says) (b .says)
 
 pub many-determined : ManyDetermined
-many-determined s before place r q after later a b = (both (a .there) (b .there), both (a .numbers) (b .numbers))
-
-pub all-determined : AllDetermined
-all-determined bytes before n r q after later a b = (both (a .puts .there) (b .puts .there), both (a .puts .stored) (b .puts .stored))
-
-pub more-determined : MoreDetermined
-more-determined numbers before n r q after later a b = (both (a .there) (b .there), both (a .stored) (b .stored))
-
-pub numbers-determined : NumbersDetermined
-numbers-determined first others before n r q after later a b = (both (a .there) (b .there), both (a .stored) (b .stored))
-
-pub end-determined : EndDetermined
-end-determined before n r q after later a b = (both (a .there) (b .there), both (a .stored) (b .stored))
-
-pub line-determined : LineDetermined
-line-determined first others before n r q after later a b = (both (a .there) (b .there), both (a .stored) (b .stored))
-
-pub out-determined : OutDetermined
-out-determined n least r q a b = both a b
+many-determined s place before r q after later a b = (both (a .there) (b .there), both (a .numbers) (b .numbers))
 
 pub phy-determined : PhyDetermined
 phy-determined f r q a b = both a b

@@ -3,7 +3,7 @@ use Prim.Native.Nat.{ℕ}
 use mathlib.Core.List.{List}
 use mathlib.Core.Path.{_≡_}
 use Rattle.casefile.specs.Records.{phyNumbers, phyOf}
-use Rattle.casefile.specs.Contracts.{TakesNumber, TakesBytes, TakesNumbers, PutsAll, PutsMore, PutsNumbers, WritesOut, EndsLine, PutsNumbersLine, MakesPhy, GivesNumbers, MakesEvent}
+use Rattle.casefile.specs.Contracts.{TakesNumber, TakesBytes, TakesNumbers, MakesPhy, GivesNumbers, MakesEvent}
 use Rattle.casefile.specs.declared.input.Taken.{Taken}
 use Rattle.casefile.specs.declared.input.Part.{Part}
 use Rattle.event.specs.declared.Event.{Event}
@@ -17,33 +17,10 @@ TakeDetermined = (s : List ℕ) (place : ℕ) (r q : Taken) → TakesNumber s pl
 abbrev pub BytesDetermined : Type 0
 BytesDetermined = (s : List ℕ) (place : ℕ) (r q : Part) → TakesBytes s place r → TakesBytes s place q → r ≡ q
 
--- a contract of a buffer `before` lent at n, with the result and the buffer that it leaves
-abbrev pub Lent : Type 1
-Lent = (before : List ℕ) (n r : ℕ) (after : List ℕ) → Type 0
-
-abbrev pub Determines : Lent → Type 0
-Determines Contract = (before : List ℕ) (n r q : ℕ) (after later : List ℕ) → Contract before n r after → Contract before n q later → (r ≡ q) × (after ≡ later)
-
 abbrev pub ManyDetermined : Type 0
-ManyDetermined = (s : List ℕ) → Determines (λ before place r after. TakesNumbers s place before r after)
-
-abbrev pub AllDetermined : Type 0
-AllDetermined = (bytes : List ℕ) → Determines (PutsAll bytes)
-
-abbrev pub MoreDetermined : Type 0
-MoreDetermined = (numbers : List ℕ) → Determines (PutsMore numbers)
-
-abbrev pub NumbersDetermined : Type 0
-NumbersDetermined = (first : ℕ) (others : List ℕ) → Determines (PutsNumbers first others)
-
-abbrev pub EndDetermined : Type 0
-EndDetermined = Determines EndsLine
-
-abbrev pub LineDetermined : Type 0
-LineDetermined = (first : ℕ) (others : List ℕ) → Determines (PutsNumbersLine first others)
-
-abbrev pub OutDetermined : Type 0
-OutDetermined = (n least r q : ℕ) → WritesOut n least r → WritesOut n least q → r ≡ q
+ManyDetermined =
+    (s : List ℕ) (place : ℕ) (before : List ℕ) (r q : ℕ) (after later : List ℕ)
+    → TakesNumbers s place before r after → TakesNumbers s place before q later → (r ≡ q) × (after ≡ later)
 
 abbrev pub PhyDetermined : Type 0
 PhyDetermined = (f : List ℕ) (r q : Phy) → MakesPhy f r → MakesPhy f q → r ≡ q

@@ -1,14 +1,11 @@
 -- What stands in a case file: numbers in the trace's own form, and byte strings, each its length and then its bytes.
-use Prim.Native.Nat.{ℕ, zero, suc, _+_, _-_, min}
+use Prim.Native.Nat.{ℕ, zero, suc}
 use mathlib.Core.List.{List, [], _∷_}
 use lib.ListN.{length}
 use Rattle.number.specs.Reading.{Told, value, refused, readNumber}
+use Rattle.output.specs.Writing.{reached}
 use Rattle.casefile.specs.declared.input.Taken.{Taken}
 use Rattle.casefile.specs.declared.input.Part.{Part}
-
--- the place that a count of bytes reaches from n on, as far as there is room
-abbrev pub reached : (room n count : ℕ) → ℕ
-reached room n count = n + min count (room - n)
 
 -- a number with the place after it; a fault is 0, and then comes the end of the file
 abbrev pub takenOf : (end : ℕ) → Told → Taken

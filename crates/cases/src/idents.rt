@@ -3,9 +3,9 @@
 use casefile::Place;
 use casefile::input::take;
 use casefile::input::take_many;
-use casefile::text::put_line;
 use identify::Identification;
 use identify::Stepped;
+use output::put_line;
 
 // The numbers of an identification, in the case file and in a line.
 const FIELDS: usize = 7;

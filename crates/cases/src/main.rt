@@ -8,9 +8,9 @@ mod syncs;
 
 use casefile::Place;
 use casefile::input::take;
-use casefile::text::write_out;
 use casefile::window::Ahead;
 use casefile::window::slide;
+use output::write_out;
 
 // More cases than any case file has: the run ends with the file.
 const MOST_CASES: u64 = 4294967296;

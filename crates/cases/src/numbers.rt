@@ -2,11 +2,11 @@
 use casefile::Place;
 use casefile::input::take;
 use casefile::input::take_bytes;
-use casefile::text::end_line;
-use casefile::text::put_all;
-use casefile::text::put_bytes;
-use casefile::text::put_line;
-use casefile::text::put_numbers;
+use output::end_line;
+use output::put_all;
+use output::put_bytes;
+use output::put_line;
+use output::put_numbers;
 
 // The buffers of the cases are no longer than this.
 const MOST_BUFFER: usize = 64;

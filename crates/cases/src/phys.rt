@@ -7,10 +7,10 @@ use casefile::records::PHY_NUMBERS;
 use casefile::records::event_of;
 use casefile::records::phy_numbers;
 use casefile::records::phy_of;
-use casefile::text::end_line;
-use casefile::text::put_more;
-use casefile::text::put_numbers;
 use event::Event;
+use output::end_line;
+use output::put_more;
+use output::put_numbers;
 use phy::Phy;
 use phy::Stepped;
 

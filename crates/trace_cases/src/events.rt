@@ -5,12 +5,12 @@ use casefile::input::take_bytes;
 use casefile::input::take_many;
 use casefile::records::EVENT_NUMBERS;
 use casefile::records::event_of;
-use casefile::text::end_line;
-use casefile::text::put_all;
-use casefile::text::put_bytes;
-use casefile::text::put_line;
-use casefile::text::put_numbers;
 use event::Event;
+use output::end_line;
+use output::put_all;
+use output::put_bytes;
+use output::put_line;
+use output::put_numbers;
 use trace::EventRead;
 use trace::EventWritten;
 

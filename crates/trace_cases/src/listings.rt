@@ -1,9 +1,9 @@
 // Cases of listings: the lister's own lines, with nothing before them.
 use crate::pieces::put_pieces;
 use casefile::Place;
-use casefile::text::GATHERED;
-use casefile::text::write_out;
 use listing::LineWritten;
+use output::GATHERED;
+use output::write_out;
 
 // How long a trace is of which this much was kept.
 fn total(kept: usize, whole: bool) -> usize {

@@ -4,7 +4,7 @@ ghost use lib.ListN.{length};
 ghost use Rattle.io.specs.Counts.{Counts};
 use casefile::input::take;
 use casefile::input::take_bytes;
-use casefile::text::put_all;
+use output::put_all;
 
 // How much of a buffer is filled, and whether there was room for all.
 pub struct Filled {

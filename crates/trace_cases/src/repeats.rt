@@ -1,7 +1,7 @@
 // A buffer in few numbers: how many equal bytes stand together, and which.
-use casefile::text::end_line;
-use casefile::text::put_more;
-use casefile::text::put_numbers;
+use output::end_line;
+use output::put_more;
+use output::put_numbers;
 
 // Whether the bytes have no further b at i.
 fn ends_at(bytes: &[u8], i: usize, b: u8) -> bool {

@@ -2,7 +2,7 @@
 use borrow.Author.Needs.{needs}
 use mathlib.Core.Path.{_≡_, ap, _∙_}
 use native.Mathlib.Omega.{arith}
-use Rattle.casefile.specs.Reading.{reached}
+use Rattle.output.specs.Writing.{reached}
 use Rattle.casefile.proofs.input.take_bytes.Statement.{statement}
 use Rattle.casefile.proofs.input.take_bytes.Tie as tie
 

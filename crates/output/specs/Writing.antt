@@ -1,9 +1,11 @@
--- Lines of text: a number, each further number after a blank, and a newline.
-use Prim.Native.Nat.{ℕ}
+-- Lines of text: a number, each further number after a blank, and a newline; and how far writing comes in a buffer.
+use Prim.Native.Nat.{ℕ, _+_, _-_, min}
 use mathlib.Core.List.{List, [], _∷_, _++_}
 use lib.Dec.{ltb}
 use Rattle.table.specs.Choice.{pick}
-use Rattle.casefile.specs.Decimal.{decimal}
+use Rattle.output.specs.Decimal.{decimal}
+
+-- ---- text
 
 -- between two numbers
 abbrev pub blank : ℕ
@@ -29,6 +31,12 @@ numbersText first others = decimal first ++ more others
 -- a whole line
 abbrev pub line : (first : ℕ) → (others : List ℕ) → List ℕ
 line first others = numbersText first others ++ (newline ∷ [])
+
+-- ---- places
+
+-- the place that a count of bytes reaches from n on, as far as there is room
+abbrev pub reached : (room n count : ℕ) → ℕ
+reached room n count = n + min count (room - n)
 
 -- the output is written once this much is gathered
 abbrev pub gathered : ℕ

@@ -8,7 +8,7 @@ use native.Mathlib.Omega.{arith}
 use borrow.Author.Tests.{lt-ltb, le-ltb}
 use Rattle.table.proofs.Laws.{by-order}
 use Rattle.io.specs.Digits.{glyph, digits, Fewest}
-use Rattle.casefile.specs.Decimal.{digit, digitsOf, decimal}
+use Rattle.output.specs.Decimal.{digit, digitsOf, decimal}
 
 glyph-digit : (d : ℕ) → d < 10 → glyph d ≡ digit d
 glyph-digit d h = rw (lt-ltb d 10 h)

@@ -1,9 +1,9 @@
--- `casefile::text::write_out` meets its contract: its two tests are the definition's.
+-- `output::write_out` meets its contract: its two tests are the definition's.
 use mathlib.Core.Path.{sym}
 use borrow.Author.Needs.{needs}
 use borrow.Author.Tests.{lt-ltb, le-ltb}
-use Rattle.casefile.proofs.text.write_out.Statement.{statement}
-use Rattle.casefile.proofs.text.write_out.Tie as tie
+use Rattle.output.proofs.write_out.Statement.{statement}
+use Rattle.output.proofs.write_out.Tie as tie
 
 returns : tie.Need-returns
 returns c = rw (lt-ltb _ _ (c .if1 .taken))

@@ -1,8 +1,8 @@
--- `casefile::text::put_numbers` meets its contract: the first number, and then the others.
+-- `output::put_numbers` meets its contract: the first number, and then the others.
 use borrow.Author.Needs.{needs}
-use Rattle.casefile.proofs.Places.{puts-then}
-use Rattle.casefile.proofs.text.put_numbers.Statement.{statement}
-use Rattle.casefile.proofs.text.put_numbers.Tie as tie
+use Rattle.output.proofs.Places.{puts-then}
+use Rattle.output.proofs.put_numbers.Statement.{statement}
+use Rattle.output.proofs.put_numbers.Tie as tie
 
 pub put-numbers-spec : {M : Type 1} → statement M
 put-numbers-spec =

@@ -1,11 +1,11 @@
--- `casefile::text::put_bytes` meets its contract: a byte is a number, and each turn writes one of those that are left.
+-- `output::put_bytes` meets its contract: a byte is a number, and each turn writes one of those that are left.
 use Prim.Native.Nat.{_-_}
 use native.Mathlib.Omega.{arith}
 use lib.ListN.{length, drop}
-use Rattle.casefile.specs.Writing.{more}
-use Rattle.casefile.proofs.Places.{Putting, putting-start, more-on, more-done}
-use Rattle.casefile.proofs.text.put_bytes.Statement.{statement}
-use Rattle.casefile.proofs.text.put_bytes.Tie as tie
+use Rattle.output.specs.Writing.{more}
+use Rattle.output.proofs.Places.{Putting, putting-start, more-on, more-done}
+use Rattle.output.proofs.put_bytes.Statement.{statement}
+use Rattle.output.proofs.put_bytes.Tie as tie
 
 abbrev Inv-loop : tie.InvT-loop
 Inv-loop out₀ n bytes end₀ i₀ out end i = Putting (more bytes) out₀ n (more (drop i bytes)) out end

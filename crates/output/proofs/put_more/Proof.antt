@@ -1,11 +1,11 @@
--- `casefile::text::put_more` meets its contract: each turn writes one number of those that are left.
+-- `output::put_more` meets its contract: each turn writes one number of those that are left.
 use Prim.Native.Nat.{_-_}
 use native.Mathlib.Omega.{arith}
 use lib.ListN.{length, drop}
-use Rattle.casefile.specs.Writing.{more}
-use Rattle.casefile.proofs.Places.{Putting, putting-start, more-on, more-done}
-use Rattle.casefile.proofs.text.put_more.Statement.{statement}
-use Rattle.casefile.proofs.text.put_more.Tie as tie
+use Rattle.output.specs.Writing.{more}
+use Rattle.output.proofs.Places.{Putting, putting-start, more-on, more-done}
+use Rattle.output.proofs.put_more.Statement.{statement}
+use Rattle.output.proofs.put_more.Tie as tie
 
 abbrev Inv-loop : tie.InvT-loop
 Inv-loop out₀ n numbers end₀ i₀ out end i = Putting (more numbers) out₀ n (more (drop i numbers)) out end

@@ -1,8 +1,8 @@
--- `casefile::text::put_line` meets its contract: the numbers, and then the line's end.
+-- `output::put_line` meets its contract: the numbers, and then the line's end.
 use borrow.Author.Needs.{needs}
-use Rattle.casefile.proofs.Places.{puts-line}
-use Rattle.casefile.proofs.text.put_line.Statement.{statement}
-use Rattle.casefile.proofs.text.put_line.Tie as tie
+use Rattle.output.proofs.Places.{puts-line}
+use Rattle.output.proofs.put_line.Statement.{statement}
+use Rattle.output.proofs.put_line.Tie as tie
 
 pub put-line-spec : {M : Type 1} → statement M
 put-line-spec =

@@ -1,10 +1,10 @@
--- `casefile::text::put` meets its contract: where there is no room the store would change nothing.
+-- `output::put` meets its contract: where there is no room the store would change nothing.
 use mathlib.Core.Path.{sym}
 use borrow.Author.Needs.{needs}
 use native.Mathlib.Omega.{arith}
 use lib.Seq.{set-out}
-use Rattle.casefile.proofs.text.put.Statement.{statement}
-use Rattle.casefile.proofs.text.put.Tie as tie
+use Rattle.output.proofs.put.Statement.{statement}
+use Rattle.output.proofs.put.Tie as tie
 
 pub put-spec : {M : Type 1} → statement M
 put-spec =

@@ -1,9 +1,9 @@
--- `casefile::text::end_line` meets its contract: a newline is written, and then what is gathered, if it is enough.
+-- `output::end_line` meets its contract: a newline is written, and then what is gathered, if it is enough.
 use borrow.Author.Needs.{needs}
 use mathlib.Core.Path.{ap, _∙_}
-use Rattle.casefile.specs.Writing.{gathered, stillGathered}
-use Rattle.casefile.proofs.text.end_line.Statement.{statement}
-use Rattle.casefile.proofs.text.end_line.Tie as tie
+use Rattle.output.specs.Writing.{gathered, stillGathered}
+use Rattle.output.proofs.end_line.Statement.{statement}
+use Rattle.output.proofs.end_line.Tie as tie
 
 returns : tie.Need-returns
 returns c =

@@ -1,9 +1,9 @@
 // Lines of text, gathered in a buffer: decimal numbers, one blank between two. Each function writes at
 // n and answers where the next one writes; what has no room is left out.
 ghost use mathlib.Core.List.{[], _∷_};
-ghost use Rattle.casefile.specs.Decimal.{decimal};
-ghost use Rattle.casefile.specs.Writing.{further};
-ghost use Rattle.casefile.specs.Contracts.{Puts, PutsAll, PutsMore, PutsNumbers, WritesOut, EndsLine, PutsNumbersLine};
+ghost use Rattle.output.specs.Decimal.{decimal};
+ghost use Rattle.output.specs.Writing.{further};
+ghost use Rattle.output.specs.Contracts.{Puts, PutsAll, PutsMore, PutsNumbers, WritesOut, EndsLine, PutsNumbersLine};
 
 // The output is written once this much is gathered, so that a line always has room.
 pub const GATHERED: usize = 32768;

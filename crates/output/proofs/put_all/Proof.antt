@@ -1,10 +1,10 @@
--- `casefile::text::put_all` meets its contract: each turn writes one byte of those that are left.
+-- `output::put_all` meets its contract: each turn writes one byte of those that are left.
 use Prim.Native.Nat.{_-_}
 use native.Mathlib.Omega.{arith}
 use lib.ListN.{length, drop}
-use Rattle.casefile.proofs.Places.{Putting, putting-start, bytes-on, bytes-done, puts-within}
-use Rattle.casefile.proofs.text.put_all.Statement.{statement}
-use Rattle.casefile.proofs.text.put_all.Tie as tie
+use Rattle.output.proofs.Places.{Putting, putting-start, bytes-on, bytes-done, puts-within}
+use Rattle.output.proofs.put_all.Statement.{statement}
+use Rattle.output.proofs.put_all.Tie as tie
 
 abbrev Inv-loop : tie.InvT-loop
 Inv-loop out₀ n bytes end₀ i₀ out end i = Putting bytes out₀ n (drop i bytes) out end

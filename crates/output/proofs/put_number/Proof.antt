@@ -1,9 +1,9 @@
--- `casefile::text::put_number` meets its contract: the digits that `io::decimal` gives are the number's.
+-- `output::put_number` meets its contract: the digits that `io::decimal` gives are the number's.
 use mathlib.Core.Path.{_∙_}
 use borrow.Author.Needs.{needs}
-use Rattle.casefile.proofs.Decimal.{same-decimal}
-use Rattle.casefile.proofs.text.put_number.Statement.{statement}
-use Rattle.casefile.proofs.text.put_number.Tie as tie
+use Rattle.output.proofs.Decimal.{same-decimal}
+use Rattle.output.proofs.put_number.Statement.{statement}
+use Rattle.output.proofs.put_number.Tie as tie
 
 returns : tie.Need-returns
 returns c =

@@ -1,8 +1,8 @@
--- `casefile::text::put_next` meets its contract: a blank, and then the number.
+-- `output::put_next` meets its contract: a blank, and then the number.
 use borrow.Author.Needs.{needs}
-use Rattle.casefile.proofs.Places.{puts-then}
-use Rattle.casefile.proofs.text.put_next.Statement.{statement}
-use Rattle.casefile.proofs.text.put_next.Tie as tie
+use Rattle.output.proofs.Places.{puts-then}
+use Rattle.output.proofs.put_next.Statement.{statement}
+use Rattle.output.proofs.put_next.Tie as tie
 
 returns : tie.Need-returns
 returns c = puts-then (c .before .before .before .before .before .before .put .ensures) (c .before .before .put-number .ensures)
