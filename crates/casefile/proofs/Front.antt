@@ -11,7 +11,7 @@ use borrow.Rule.Slice.PartMut.{putMid, take-put}
 use lib.Seq.{slice, slice-empty, length-slice, take-take, take-all, take-length, length-take-le, take-suc, take-suc-set, drop-append-le, drop-drop, drop-set-lt, getD-drop}
 use Rattle.table.proofs.Laws.{by-order}
 use Rattle.casefile.specs.Contracts.{MovesToFront, Slides}
-use Rattle.casefile.specs.declared.window.Ahead.{Ahead}
+use Rattle.casefile.specs.declared.Ahead.{Ahead}
 
 pub record Moving (before : List ℕ) (from to : ℕ) (window : List ℕ) (i : ℕ) : Type 0 where
   pub low : from ≤ i

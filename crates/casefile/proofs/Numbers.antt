@@ -10,7 +10,7 @@ use Rattle.number.specs.Reading.{value, refused, readNumber}
 use Rattle.number.proofs.Refusals.{read-moves-on}
 use Rattle.casefile.specs.Reading.{takenOf, taken, numbersAt, placeAfter}
 use Rattle.casefile.specs.Contracts.{TakesNumber, TakesNumbers}
-use Rattle.casefile.specs.declared.input.Taken.{Taken}
+use Rattle.casefile.specs.declared.Taken.{Taken}
 
 pub takes-value : (s : List ℕ) (place v next : ℕ) → readNumber s place ≡ value v next → TakesNumber s place (record { value = v; next = next })
 unfolding taken

@@ -6,9 +6,9 @@ use lib.ListN.{length, take}
 use lib.Seq.{slice}
 use Rattle.casefile.specs.Reading.{taken, partAt, numbersAt, placeAfter}
 use Rattle.casefile.specs.Records.{phyNumbers, phyOf, eventOf}
-use Rattle.casefile.specs.declared.input.Taken.{Taken}
-use Rattle.casefile.specs.declared.input.Part.{Part}
-use Rattle.casefile.specs.declared.window.Ahead.{Ahead}
+use Rattle.casefile.specs.declared.Taken.{Taken}
+use Rattle.casefile.specs.declared.Part.{Part}
+use Rattle.casefile.specs.declared.Ahead.{Ahead}
 use Rattle.event.specs.declared.Event.{Event}
 use Rattle.phy.specs.declared.Phy.{Phy}
 

@@ -4,8 +4,8 @@ use mathlib.Core.List.{List}
 use mathlib.Core.Path.{_≡_}
 use Rattle.casefile.specs.Records.{phyNumbers, phyOf}
 use Rattle.casefile.specs.Contracts.{TakesNumber, TakesBytes, TakesNumbers, MakesPhy, GivesNumbers, MakesEvent}
-use Rattle.casefile.specs.declared.input.Taken.{Taken}
-use Rattle.casefile.specs.declared.input.Part.{Part}
+use Rattle.casefile.specs.declared.Taken.{Taken}
+use Rattle.casefile.specs.declared.Part.{Part}
 use Rattle.event.specs.declared.Event.{Event}
 use Rattle.phy.specs.declared.Phy.{Phy}
 

@@ -4,8 +4,8 @@ use mathlib.Core.List.{List, [], _∷_}
 use lib.ListN.{length}
 use Rattle.number.specs.Reading.{Told, value, refused, readNumber}
 use Rattle.output.specs.Writing.{reached}
-use Rattle.casefile.specs.declared.input.Taken.{Taken}
-use Rattle.casefile.specs.declared.input.Part.{Part}
+use Rattle.casefile.specs.declared.Taken.{Taken}
+use Rattle.casefile.specs.declared.Part.{Part}
 
 -- a number with the place after it; a fault is 0, and then comes the end of the file
 abbrev pub takenOf : (end : ℕ) → Told → Taken

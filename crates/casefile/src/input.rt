@@ -1,19 +1,10 @@
 // Numbers and byte strings of the case file.
+ghost use mathlib.Core.Path.{_≡_};
+ghost use Rattle.output.specs.Writing.{reached as Writing·reached};
 ghost use Rattle.casefile.specs.Contracts.{TakesNumber, TakesBytes, TakesNumbers};
-use crate::reached;
+use crate::Part;
+use crate::Taken;
 use number::NumberRead;
-
-// A number, and the place after it.
-pub struct Taken {
-    pub value: u64,
-    pub next: usize,
-}
-
-// A byte string of the case file, as a part of it.
-pub struct Part {
-    pub from: usize,
-    pub to: usize,
-}
 
 // The number at a place; a fault is the end of the file.
 pub fn take(s: &[u8], place: usize) -> Taken
@@ -35,6 +26,19 @@ pub fn take(s: &[u8], place: usize) -> Taken
             next: end,
         },
     }
+}
+
+// The place that a count of bytes reaches from n on, as far as there is room.
+fn reached(room: usize, n: usize, count: usize) -> usize
+    ensures { λ r. ⌜ r ≡ Writing·reached room n count ⌝ }
+{
+    if room <= n {
+        return n;
+    }
+    if room - n < count {
+        return room;
+    }
+    n + count
 }
 
 // The byte string at a place: its length and its bytes, as far as the file has them.

@@ -1,15 +1,11 @@
 // The records that a case file holds as numbers, in the order of their fields.
 ghost use Rattle.casefile.specs.Contracts.{MakesPhy, GivesNumbers, MakesEvent};
+use crate::EVENT_NUMBERS;
+use crate::PHY_NUMBERS;
 use event::Event;
 use event::Open;
 use phy::Phy;
 use phy::Settings;
-
-// The numbers of a phy.
-pub const PHY_NUMBERS: usize = 15;
-
-// The numbers of an event: its code and six arguments.
-pub const EVENT_NUMBERS: usize = 7;
 
 // A flag is set where its number is 1.
 pub fn phy_of(f: [u64; PHY_NUMBERS]) -> Phy

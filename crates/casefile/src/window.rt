@@ -4,16 +4,10 @@ ghost use Prim.Native.Nat.{_≤_, min};
 ghost use mathlib.Core.Path.{_≡_};
 ghost use lib.ListN.{length};
 ghost use Rattle.casefile.specs.Contracts.{MovesToFront, Slides};
+use crate::Ahead;
 
 // A case takes no more than this of the case file.
 const MOST_CASE: usize = 32768;
-
-// The part of the window that holds what is to come, and whether the file has ended.
-pub struct Ahead {
-    pub from: usize,
-    pub to: usize,
-    pub ended: bool,
-}
 
 fn least(a: usize, b: usize) -> usize
     ensures { λ r. ⌜ r ≡ min a b ⌝ }

@@ -1,8 +1,8 @@
 // Cases of the crate `identify`: a walk of steps, each from the identification that the one before
 // gave.
 use casefile::Place;
-use casefile::input::take;
-use casefile::input::take_many;
+use casefile::take;
+use casefile::take_many;
 use identify::Identification;
 use identify::Stepped;
 use output::put_line;

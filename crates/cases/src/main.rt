@@ -6,10 +6,10 @@ mod numbers;
 mod phys;
 mod syncs;
 
+use casefile::Ahead;
 use casefile::Place;
-use casefile::input::take;
-use casefile::window::Ahead;
-use casefile::window::slide;
+use casefile::slide;
+use casefile::take;
 use output::write_out;
 
 // More cases than any case file has: the run ends with the file.

@@ -1,7 +1,7 @@
 // Cases of the crate `number`: reading at a place of a byte string, writing into a buffer.
 use casefile::Place;
-use casefile::input::take;
-use casefile::input::take_bytes;
+use casefile::take;
+use casefile::take_bytes;
 use output::end_line;
 use output::put_all;
 use output::put_bytes;

@@ -1,12 +1,12 @@
 // Cases of the crate `phy`: a walk of events, each repeated, from the phy that the one before gave.
+use casefile::EVENT_NUMBERS;
+use casefile::PHY_NUMBERS;
 use casefile::Place;
-use casefile::input::take;
-use casefile::input::take_many;
-use casefile::records::EVENT_NUMBERS;
-use casefile::records::PHY_NUMBERS;
-use casefile::records::event_of;
-use casefile::records::phy_numbers;
-use casefile::records::phy_of;
+use casefile::event_of;
+use casefile::phy_numbers;
+use casefile::phy_of;
+use casefile::take;
+use casefile::take_many;
 use event::Event;
 use output::end_line;
 use output::put_more;

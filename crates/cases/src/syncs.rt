@@ -1,6 +1,6 @@
 // Cases of the crate `dws`: a walk of steps, each from the state that the one before gave.
 use casefile::Place;
-use casefile::input::take;
+use casefile::take;
 use output::put_line;
 
 // state, count, events: for each event the refusal, the state and the report

@@ -1,10 +1,10 @@
 // Cases of single events: reading at a place of a byte string, writing into a buffer.
+use casefile::EVENT_NUMBERS;
 use casefile::Place;
-use casefile::input::take;
-use casefile::input::take_bytes;
-use casefile::input::take_many;
-use casefile::records::EVENT_NUMBERS;
-use casefile::records::event_of;
+use casefile::event_of;
+use casefile::take;
+use casefile::take_bytes;
+use casefile::take_many;
 use event::Event;
 use output::end_line;
 use output::put_all;

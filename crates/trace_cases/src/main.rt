@@ -8,10 +8,10 @@ mod repeats;
 mod runs;
 mod traces;
 
+use casefile::Ahead;
 use casefile::Place;
-use casefile::input::take;
-use casefile::window::Ahead;
-use casefile::window::slide;
+use casefile::slide;
+use casefile::take;
 use output::write_out;
 
 // More cases than any case file has: the run ends with the file.

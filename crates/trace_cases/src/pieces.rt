@@ -2,8 +2,8 @@
 ghost use Prim.Native.Nat.{_≤_};
 ghost use lib.ListN.{length};
 ghost use Rattle.io.specs.Counts.{Counts};
-use casefile::input::take;
-use casefile::input::take_bytes;
+use casefile::take;
+use casefile::take_bytes;
 use output::put_all;
 
 // How much of a buffer is filled, and whether there was room for all.

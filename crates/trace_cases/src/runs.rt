@@ -2,12 +2,12 @@
 use crate::pieces::put_piece;
 use crate::pieces::put_pieces;
 use crate::repeats::put_repeats;
+use casefile::PHY_NUMBERS;
 use casefile::Place;
-use casefile::input::take;
-use casefile::input::take_many;
-use casefile::records::PHY_NUMBERS;
-use casefile::records::phy_numbers;
-use casefile::records::phy_of;
+use casefile::phy_numbers;
+use casefile::phy_of;
+use casefile::take;
+use casefile::take_many;
 use output::end_line;
 use output::put_more;
 use output::put_numbers;

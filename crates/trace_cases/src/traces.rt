@@ -4,7 +4,7 @@ use crate::events::read_at;
 use crate::pieces::put_piece;
 use crate::repeats::put_repeats;
 use casefile::Place;
-use casefile::input::take_bytes;
+use casefile::take_bytes;
 
 // What the copy is filled with, so that what no event was written over shows.
 const UNTOUCHED: u8 = 255;
