@@ -10,21 +10,15 @@ use number::NumberRead;
 pub fn take(s: &[u8], place: usize) -> Taken
     ensures { λ r. ⌜ TakesNumber (now (s .entry)) place r ⌝ }
 {
-    let end = s.len();
+    let end = Taken {
+        value: 0,
+        next: s.len(),
+    };
     match number::read_number(s, place) {
         NumberRead::Value { value, next } => Taken { value, next },
-        NumberRead::Cut => Taken {
-            value: 0,
-            next: end,
-        },
-        NumberRead::Overlong => Taken {
-            value: 0,
-            next: end,
-        },
-        NumberRead::TooLarge => Taken {
-            value: 0,
-            next: end,
-        },
+        NumberRead::Cut => end,
+        NumberRead::Overlong => end,
+        NumberRead::TooLarge => end,
     }
 }
 

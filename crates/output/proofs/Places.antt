@@ -8,8 +8,7 @@ use native.Mathlib.Omega.{arith}
 use lib.ListN.{length, drop, getD, set, length-append, drop-of-length-le}
 use lib.Seq.{sets, set-out, length-sets, drop-cons}
 use Rattle.table.proofs.Laws.{by-order}
-use Rattle.output.specs.Writing.{reached}
-use Rattle.output.specs.Writing.{further, more, gathered, stillGathered}
+use Rattle.output.specs.Writing.{further, more, reached, gathered, stillGathered}
 use Rattle.output.specs.Contracts.{Puts, PutsAll, PutsLine}
 
 sets-on : (buffer xs ys : List ℕ) (at : ℕ) → sets buffer at (xs ++ ys) ≡ sets (sets buffer at xs) (at + length xs) ys

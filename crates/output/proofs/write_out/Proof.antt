@@ -1,5 +1,4 @@
 -- `output::write_out` meets its contract: its two tests are the definition's.
-use mathlib.Core.Path.{sym}
 use borrow.Author.Needs.{needs}
 use borrow.Author.Tests.{lt-ltb, le-ltb}
 use Rattle.output.proofs.write_out.Statement.{statement}

@@ -1,8 +1,5 @@
 -- `casefile::input::take_bytes` meets its contract: the length is the number taken, and the part lies behind it.
-use borrow.Author.Needs.{needs}
-use mathlib.Core.Path.{_≡_, ap, _∙_}
 use native.Mathlib.Omega.{arith}
-use Rattle.output.specs.Writing.{reached}
 use Rattle.casefile.proofs.input.take_bytes.Statement.{statement}
 use Rattle.casefile.proofs.input.take_bytes.Tie as tie
 

@@ -1,6 +1,5 @@
 -- `casefile::input::take_many` meets its contract: each turn takes one number and stores it.
 use Prim.Native.Nat.{_-_}
-use borrow.Author.Needs.{needs}
 use native.Mathlib.Omega.{arith}
 use lib.ListN.{length}
 use Rattle.casefile.proofs.Numbers.{Taking, taking-start, taking-on, taking-done}
