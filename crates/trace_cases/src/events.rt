@@ -54,7 +54,7 @@ fn no_event(how: u64, refusal: u8, place: usize) -> Said {
 }
 
 pub fn read_at(trace: &[u8], place: usize) -> Said {
-    match trace::read_event(trace, place) {
+    match trace::event_at(trace, place) {
         EventRead::Event { event, next } => Said {
             how: FOUND_EVENT,
             refusal: 0,
@@ -62,10 +62,10 @@ pub fn read_at(trace: &[u8], place: usize) -> Said {
             event,
         },
         EventRead::End => no_event(FOUND_END, 0, place),
-        EventRead::BadEvent => no_event(FOUND_FAULT, table::BAD_EVENT, place),
-        EventRead::Cut => no_event(FOUND_FAULT, table::CUT, place),
-        EventRead::Overlong => no_event(FOUND_FAULT, table::OVERLONG, place),
-        EventRead::TooLarge => no_event(FOUND_FAULT, table::TOO_LARGE, place),
+        EventRead::BadEvent(first) => no_event(FOUND_FAULT, table::BAD_EVENT, first),
+        EventRead::Cut(first) => no_event(FOUND_FAULT, table::CUT, first),
+        EventRead::Overlong(first) => no_event(FOUND_FAULT, table::OVERLONG, first),
+        EventRead::TooLarge(first) => no_event(FOUND_FAULT, table::TOO_LARGE, first),
     }
 }
 
