@@ -1,5 +1,4 @@
 pub mod Copying
-pub mod Decimal
 pub mod Parts
 pub mod Determined
 pub mod Refusals

@@ -4,7 +4,7 @@ use mathlib.Core.List.{List, [], _∷_, _++_}
 use Rattle.event.specs.declared.Event.{Event}
 use Rattle.phy.specs.declared.Stepped.{Stepped}
 use Rattle.listing.specs.Words.{space, newline, placeWord, eventWord, refusalWord, answerWord, noticeWord, sentWord, linkWord, portWord, endWord, eventsWord, stopWord, tooWord, longWord}
-use Rattle.listing.specs.Text.{decimal}
+use Rattle.output.specs.Decimal.{decimal}
 
 -- what stands after a part of a line: a space where others follow, and else the line's end
 abbrev pub after : (others : List (List ℕ)) → ℕ

@@ -4,7 +4,8 @@ ghost use mathlib.Core.List.{_∷_, [], _++_};
 ghost use mathlib.Core.Path.{_≡_};
 ghost use lib.ListN.{length};
 ghost use lib.Seq.{sets};
-ghost use Rattle.listing.specs.Text.{decimal, mostLine, Holds};
+ghost use Rattle.output.specs.Decimal.{decimal};
+ghost use Rattle.listing.specs.Text.{mostLine, Holds};
 ghost use Rattle.listing.specs.Contracts.{Adds};
 
 // The first `length` bytes are the text. It has room for the longest line: eight numbers of twenty

@@ -1,8 +1,8 @@
 -- The digits that `io::decimal` writes are the definition's: both take the last digit off, and end at one digit.
-use Prim.Native.Nat.{ℕ, zero, suc, _/_, _%_, _^_, _≤_, _<_}
+use Prim.Native.Nat.{ℕ, zero, suc, _-_, _/_, _%_, _^_, _≤_, _<_}
 use mathlib.Core.List.{List, [], _∷_, _++_}
 use mathlib.Core.Path.{_≡_, refl, sym, ap, ap₂, _∙_}
-use native.Mathlib.Nat.{pow-succ', one-le-pow}
+use native.Mathlib.Nat.{pow-succ', one-le-pow, pow-le-pow-right}
 use native.Mathlib.Numerals.{unary-clauses}
 use native.Mathlib.Omega.{arith}
 use borrow.Author.Tests.{lt-ltb, le-ltb}
@@ -55,3 +55,10 @@ same-decimal n zero f = absurd (omega arith)
 same-decimal n (suc k) f =
     let t : Takes k n = record { under = f .1; full = λ h. simp unary-clauses at (f .2 (omega arith)) } in
     same-digits k n n (by-order 0 k (λ h. omega (arith, below-power k, t .full h)) (λ h. omega arith)) t
+
+-- a number of 64 bits has twenty digits at most
+pub at-most-twenty : (n k : ℕ) → n < 2 ^ 64 → Fewest 10 1 n k → k ≤ 20
+at-most-twenty n k h f =
+    by-order 20 k
+    (λ l. absurd (omega (arith, f .2 (omega arith), pow-le-pow-right {n = 10} (omega arith) {i = 20} {j = k - 1} (omega arith))))
+    (λ l. l)

@@ -5,8 +5,8 @@ use mathlib.Core.List.{append-assoc}
 use native.Mathlib.Omega.{arith}
 use borrow.Author.Needs.{needs}
 use lib.ListN.{length, take, length-append}
-use Rattle.listing.specs.Text.{decimal}
-use Rattle.listing.proofs.Decimal.{same-decimal, at-most-twenty}
+use Rattle.output.specs.Decimal.{decimal}
+use Rattle.output.proofs.Decimal.{same-decimal, at-most-twenty}
 use Rattle.listing.proofs.text.with_number.Statement.{statement}
 use Rattle.listing.proofs.text.with_number.Tie as tie
 
