@@ -9,11 +9,11 @@ use Rattle.phy.specs.declared.Phy.{Phy}
 use Rattle.records.specs.Records.{isFlag, flagOf, numberOf, toOpen, fromOpen}
 use Rattle.records.specs.Laws.{PhyBack, RecordBack, EventBack, EventRecordBack}
 
-flag-back : (flag : Bool) → flagOf (numberOf flag) ≡ flag
+pub flag-back : (flag : Bool) → flagOf (numberOf flag) ≡ flag
 flag-back true = refl
 flag-back false = refl
 
-number-back : (n : ℕ) → isFlag n ≡ true → numberOf (flagOf n) ≡ n
+pub number-back : (n : ℕ) → isFlag n ≡ true → numberOf (flagOf n) ≡ n
 number-back zero h = refl
 number-back (suc zero) h = refl
 number-back (suc (suc n)) h = absurd (omega (arith, leb-true (suc (suc n)) 1 h))

@@ -8,7 +8,6 @@ both f a r q l k = l ∙ sym k
 pub all-determined : AllDetermined
 all-determined =
     record {
-      is-flag = both _;
       number-of = both _;
       from-open = both _;
       flags-good = both _;

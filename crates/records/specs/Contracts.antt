@@ -5,14 +5,10 @@ use mathlib.Core.Path.{_≡_}
 use Rattle.event.specs.declared.Event.{Event}
 use Rattle.event.specs.declared.Open.{Open}
 use Rattle.phy.specs.declared.Phy.{Phy}
-use Rattle.records.specs.Records.{isFlag, numberOf, fromOpen, flagsGood, toPhy, fromPhy, toEvent, fromEvent}
+use Rattle.records.specs.Records.{numberOf, fromOpen, flagsGood, toPhy, fromPhy, toEvent, fromEvent}
 use Rattle.records.specs.declared.EventRecord.{EventRecord}
 use Rattle.records.specs.declared.OpenRecord.{OpenRecord}
 use Rattle.records.specs.declared.PhyRecord.{PhyRecord}
-
--- `is_flag` of a number
-abbrev pub TellsFlag : ℕ → Bool → Type 0
-TellsFlag n r = r ≡ isFlag n
 
 -- `number_of` a flag
 abbrev pub GivesNumber : Bool → ℕ → Type 0

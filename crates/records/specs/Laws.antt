@@ -5,7 +5,7 @@ use mathlib.Core.Path.{_≡_}
 use Rattle.event.specs.declared.Event.{Event}
 use Rattle.phy.specs.declared.Phy.{Phy}
 use Rattle.records.specs.Records.{flagsGood, toPhy, fromPhy, toEvent, fromEvent}
-use Rattle.records.specs.Contracts.{TellsFlag, GivesNumber, GivesOpen, TellsFlags, MakesPhy, GivesPhy, MakesEvent, GivesEvent}
+use Rattle.records.specs.Contracts.{GivesNumber, GivesOpen, TellsFlags, MakesPhy, GivesPhy, MakesEvent, GivesEvent}
 use Rattle.records.specs.declared.EventRecord.{EventRecord}
 use Rattle.records.specs.declared.PhyRecord.{PhyRecord}
 
@@ -35,7 +35,6 @@ Determined {A} {B} Allows = (a : A) (r q : B) → Allows a r → Allows a q → 
 
 -- of every public function here
 pub record AllDetermined : Type 0 where
-  pub is-flag : Determined TellsFlag
   pub number-of : Determined GivesNumber
   pub from-open : Determined GivesOpen
   pub flags-good : Determined TellsFlags

@@ -2,7 +2,7 @@
 // outside that is neither 0 nor 1 would break its type, and a number can be refused.
 ghost use mathlib.Core.Path.{_≡_};
 ghost use Rattle.records.specs.Records.{toOpen};
-ghost use Rattle.records.specs.Contracts.{TellsFlag, GivesNumber, TellsFlags, MakesPhy, GivesPhy, GivesOpen, MakesEvent, GivesEvent};
+ghost use Rattle.records.specs.Contracts.{GivesNumber, TellsFlags, MakesPhy, GivesPhy, GivesOpen, MakesEvent, GivesEvent};
 use event::Event;
 use event::Open;
 use phy::Phy;
@@ -44,13 +44,6 @@ pub struct EventRecord {
     pub fourth: u64,
     pub fifth: u64,
     pub sixth: u64,
-}
-
-// A number that can stand for a flag.
-pub fn is_flag(n: u64) -> bool
-    ensures { λ r. ⌜ TellsFlag n r ⌝ }
-{
-    n <= 1
 }
 
 // The number of a flag.
