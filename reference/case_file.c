@@ -6,10 +6,10 @@
 
 enum { PATH_ROOM = 4096 };
 
-static FILE *open_in(const char *folder, const char *name)
+static FILE *open_in(const char *folder, const char *program, const char *name)
 {
     char path[PATH_ROOM];
-    int length = snprintf(path, sizeof path, "%s/%s", folder, name);
+    int length = snprintf(path, sizeof path, "%s/%s/%s", folder, program, name);
 
     if (length < 0 || length >= PATH_ROOM) {
         return NULL;
@@ -17,14 +17,14 @@ static FILE *open_in(const char *folder, const char *name)
     return fopen(path, "wb");
 }
 
-bool case_file_open(struct case_file *file, const char *folder)
+bool case_file_open(struct case_file *file, const char *folder, const char *program)
 {
     file->random = 0;
-    file->cases = open_in(folder, "stdin");
+    file->cases = open_in(folder, program, "stdin");
     if (file->cases == NULL) {
         return false;
     }
-    file->expected = open_in(folder, "stdout");
+    file->expected = open_in(folder, program, "stdout");
     if (file->expected == NULL) {
         fclose(file->cases);
         return false;
@@ -73,6 +73,30 @@ void expect_line(struct case_file *file, enum case_kind kind, const uint64_t *nu
     fprintf(file->expected, "%d", (int)kind);
     for (size_t i = 0; i < count; i++) {
         fprintf(file->expected, " %" PRIu64, numbers[i]);
+    }
+    fputc('\n', file->expected);
+}
+
+static size_t equal_bytes(const uint8_t *bytes, size_t length)
+{
+    size_t count = 1;
+
+    while (count < length && bytes[count] == bytes[0]) {
+        count++;
+    }
+    return count;
+}
+
+void expect_repeats(struct case_file *file, enum case_kind kind, const uint8_t *bytes, size_t length)
+{
+    size_t place = 0;
+
+    fprintf(file->expected, "%d", (int)kind);
+    while (place < length) {
+        size_t equal = equal_bytes(bytes + place, length - place);
+
+        fprintf(file->expected, " %zu %u", equal, (unsigned)bytes[place]);
+        place += equal;
     }
     fputc('\n', file->expected);
 }

@@ -11,7 +11,12 @@ enum case_kind {
     KIND_WRITE_NUMBER = 2,
     KIND_DWS_WALK = 3,
     KIND_IDENTIFY_WALK = 4,
-    KIND_PHY_WALK = 5
+    KIND_PHY_WALK = 5,
+    KIND_READ_EVENT = 6,
+    KIND_WRITE_EVENT = 7,
+    KIND_TRACE = 8,
+    KIND_RUNS = 9,
+    KIND_LISTING = 10
 };
 
 /* The two files stay in step: whoever writes a case also writes the lines expected of it. */
@@ -21,7 +26,8 @@ struct case_file {
     uint64_t random;
 };
 
-bool case_file_open(struct case_file *file, const char *folder);
+/* The files of one case program, in the folder of its name. */
+bool case_file_open(struct case_file *file, const char *folder, const char *program);
 
 /* False if anything of either file could not be written. */
 bool case_file_close(struct case_file *file);
@@ -31,6 +37,9 @@ void case_numbers(struct case_file *file, const uint64_t *numbers, size_t count)
 void case_bytes(struct case_file *file, const uint8_t *bytes, size_t length);
 
 void expect_line(struct case_file *file, enum case_kind kind, const uint64_t *numbers, size_t count);
+
+/* A line of pairs: how many equal bytes come one after the other, and which byte it is. */
+void expect_repeats(struct case_file *file, enum case_kind kind, const uint8_t *bytes, size_t length);
 
 /* At most one of these in an expression: C leaves the order of two open, and the cases must not vary. */
 uint64_t case_random(struct case_file *file);

@@ -8,4 +8,13 @@ void make_dws_cases(struct case_file *file);
 void make_identify_cases(struct case_file *file);
 void make_phy_cases(struct case_file *file);
 
+void make_read_event_cases(struct case_file *file);
+void make_write_event_cases(struct case_file *file);
+void make_whole_trace_cases(struct case_file *file);
+void make_run_cases(struct case_file *file);
+void make_listing_cases(struct case_file *file);
+
+/* From the traces of a folder; false if one of them is wrong or cannot be read. */
+bool make_named_listing_cases(struct case_file *file, const char *folder);
+
 #endif

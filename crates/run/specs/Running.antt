@@ -1,0 +1,95 @@
+-- A run: the events that a trace gives under a budget, and what a phy makes of them.
+use Prim.Native.Nat.{ℕ, zero, suc}
+use mathlib.Core.List.{List, [], _∷_}
+use lib.Dec.{eqb, leb}
+use lib.ListN.{length}
+use lib.Seq.{sets}
+use Rattle.table.specs.Choice.{pick}
+use Rattle.table.specs.Refusals.{badState, badEvent, cut, overlong, tooLarge, noRoom}
+use Rattle.event.specs.declared.Event.{Event}
+use Rattle.trace.specs.Reading as reading
+use Rattle.trace.specs.Reading.{readEvent}
+use Rattle.phy.specs.State.{validOf}
+use Rattle.phy.specs.Step.{stepOf}
+use Rattle.phy.specs.declared.Phy.{Phy}
+use Rattle.phy.specs.declared.Stepped.{Stepped}
+use Rattle.ledger.specs.Log.{Entry, log, after}
+use Rattle.run.specs.declared.Ran.{Ran}
+use Rattle.run.specs.declared.Stop.{Stop}
+use Rattle.run.specs.declared.Stop.the-variants.{End, Budget, BadEvent, Cut, Overlong, TooLarge, BadState, NoRoom}
+
+-- how a run stops: at the trace's end, at the budget, at a trace fault with its number and place, or refused with a number before the first event
+pub data Halt : Type 0 where
+  atEnd : Halt
+  atBudget : Halt
+  atFault : ℕ → ℕ → Halt
+  refused : ℕ → Halt
+
+-- the events taken, in order, and how taking them stopped
+pub record Course : Type 0 where
+  pub events : List Event
+  pub halt : Halt
+
+abbrev pub stops : Halt → Course
+stops halt = record { events = []; halt = halt }
+
+abbrev pub first : Event → Course → Course
+first e c = record { events = e ∷ c .events; halt = c .halt }
+
+-- what is read at a place with budget left: an event is taken and the rest follows it
+abbrev pub onwards : reading.Told → (ℕ → Course) → Course
+onwards (reading.event e next) rest = first e (rest next)
+onwards reading.end rest = stops atEnd
+onwards (reading.refused n at) rest = stops (atFault n at)
+
+-- the events from a place on under a budget; the end is looked for first, then the budget, then a fault
+unfoldable pub taking : (budget : ℕ) → List ℕ → ℕ → Course
+taking zero s place = stops (pick (leb (length s) place) atEnd atBudget)
+taking (suc budget) s place = onwards (readEvent s place) (taking budget s)
+
+-- the byte of a step: the refusal, or else the answer, or else 0
+unfoldable pub byteOf : Stepped → ℕ
+byteOf r = pick (eqb (r .refusal) 0) (r .answer) (r .refusal)
+
+-- one byte for each event that comes to a phy
+abbrev pub bytesIn : List Entry → List ℕ
+bytesIn [] = []
+bytesIn (x ∷ xs) = byteOf (x .result) ∷ bytesIn xs
+
+abbrev pub bytesOf : Phy → List Event → List ℕ
+bytesOf p es = bytesIn (log stepOf p es)
+
+-- what a run tells: the number of events taken, the state after them, and how it stopped
+pub record Told : Type 0 where
+  pub count : ℕ
+  pub state : Phy
+  pub halt : Halt
+
+abbrev pub told : (count : ℕ) → (state : Phy) → Halt → Told
+told count state halt = record { count = count; state = state; halt = halt }
+
+-- a valid phy takes every event of a course
+abbrev pub toldOf : Phy → Course → Told
+toldOf p c = told (length (c .events)) (after stepOf p (c .events)) (c .halt)
+
+-- a run of any phy: refused with 1, then with 10 where the buffer is shorter than the budget, it takes nothing
+abbrev pub runOf : Phy → List ℕ → (budget : ℕ) → (buffer : List ℕ) → Told
+runOf p s budget buffer = pick (validOf p) (pick (leb budget (length buffer)) (toldOf p (taking budget s 0)) (told 0 p (refused noRoom))) (told 0 p (refused badState))
+
+-- the buffer afterwards: the bytes of the events taken, then what stood there; refused, nothing is written
+abbrev pub bufferAfter : Phy → List ℕ → (budget : ℕ) → (buffer : List ℕ) → List ℕ
+bufferAfter p s budget buffer = pick (validOf p) (pick (leb budget (length buffer)) (sets buffer 0 (bytesOf p (taking budget s 0 .events))) buffer) buffer
+
+-- what each way to stop says, as the paper numbers it
+abbrev pub tellsStop : Stop → Halt
+tellsStop End = atEnd
+tellsStop Budget = atBudget
+tellsStop (BadEvent place) = atFault badEvent place
+tellsStop (Cut place) = atFault cut place
+tellsStop (Overlong place) = atFault overlong place
+tellsStop (TooLarge place) = atFault tooLarge place
+tellsStop BadState = refused badState
+tellsStop NoRoom = refused noRoom
+
+abbrev pub tells : Ran → Told
+tells r = told (r .count) (r .next) (tellsStop (r .stop))

@@ -1,0 +1,304 @@
+#include "cases.h"
+
+#include "case_trace.h"
+#include "listing.h"
+
+enum {
+    LONG_EVENTS = 5,
+    MOST_SCRIPT_EVENTS = 100,
+    RANDOM_WALKS = 25,
+    WALK_EVENTS = 50,
+    DAMAGED_WALKS = 80,
+    SHORT_EVENTS = 14
+};
+
+static const struct phy_event widest_inbound = {EVENT_OPEN_RECEIVED, {UINT64_MAX, PROTOCOL_STP}};
+
+static void listing_case(struct case_file *file, const struct pieces *trace)
+{
+    case_number(file, KIND_LISTING);
+    case_pieces(file, trace);
+    list_trace(file->expected, trace->whole, trace->length);
+}
+
+static void list_bytes(struct case_file *file, const uint8_t *bytes, size_t length)
+{
+    struct pieces trace;
+
+    pieces_clear(&trace);
+    pieces_add(&trace, 1, bytes, length);
+    listing_case(file, &trace);
+}
+
+static void list_string(struct case_file *file, const struct byte_string *string)
+{
+    list_bytes(file, string->bytes, string->length);
+}
+
+static void list_nothing(struct case_file *file)
+{
+    struct pieces trace;
+
+    pieces_clear(&trace);
+    listing_case(file, &trace);
+}
+
+static void list_paper_example(struct case_file *file)
+{
+    static const uint8_t bytes[] = {0x01, 0x05, 0x01, 0x09, 0xAC, 0x02, 0x00, 0x00, 0x0B, 0x0D};
+
+    for (size_t length = 0; length <= sizeof bytes; length++) {
+        list_bytes(file, bytes, length);
+    }
+}
+
+/* ---- Every kind of event line ---- */
+
+/* To each pair of link and port that a fresh phy comes to, and to L3 with the far side closed. */
+static const struct phy_item ways[][SCRIPT_ITEMS] = {
+    {PLAIN(1, EVENT_TICK)},
+    {TX_OPEN(7, 1, 0)},
+    {OPEN_FROM(8, 2)},
+    {TX_OPEN(7, 1, 0), OPEN_FROM(8, 2)},
+    {TX_OPEN(8, 1, 0), OPEN_FROM(8, 2)},
+    {TX_OPEN(7, 0, 0), PLAIN(1, EVENT_OPEN_ACCEPT)},
+    {TX_OPEN(7, 2, 0), PLAIN(1, EVENT_OPEN_ACCEPT)},
+    {TX_OPEN(7, 0, 0), PLAIN(1, EVENT_OPEN_ACCEPT), PLAIN(1, EVENT_CLOSE)},
+    {TX_OPEN(7, 1, 0), PLAIN(1, EVENT_OPEN_ACCEPT), PLAIN(1, EVENT_CLOSE_CONNECTION)},
+    {TX_OPEN(7, 0, 0), PLAIN(1, EVENT_OPEN_ACCEPT), PLAIN(1, EVENT_SMP_TRANSMIT_BREAK)},
+    {TX_OPEN(7, 1, 0), PLAIN(1, EVENT_CANCEL_OPEN)},
+    {OPEN_FROM(8, 2), PLAIN(1, EVENT_BREAK)},
+    {OPEN_FROM(8, 2), PLAIN(1, EVENT_BREAK), TX_OPEN(7, 1, 0)},
+    {TX_OPEN(7, 1, 0), PLAIN(1, EVENT_OPEN_ACCEPT), PLAIN(1, EVENT_BREAK)},
+    {TX_OPEN(7, 1, 0), PLAIN(1, EVENT_BREAK)}
+};
+
+static void add_way(struct byte_string *string, const struct phy_item items[SCRIPT_ITEMS])
+{
+    for (size_t i = 0; i < SCRIPT_ITEMS && items[i].repeat != 0; i++) {
+        add_event(string, &items[i].event);
+    }
+}
+
+static void list_every_code(struct case_file *file, const struct phy_item way[SCRIPT_ITEMS], uint64_t flag)
+{
+    struct byte_string string = {.length = 0};
+
+    for (uint64_t code = EVENT_TX_OPEN; code <= EVENT_PHY_DISABLED; code++) {
+        struct phy_event event = sample_event(code);
+
+        add_byte(&string, (uint8_t)flag);
+        add_way(&string, way);
+        add_event(&string, &event);
+        add_byte(&string, EVENT_TICK);
+        add_byte(&string, EVENT_HARD_RESET);
+    }
+    list_string(file, &string);
+}
+
+/* Answered at once in L1; in L5 the reason of the reject does not matter. */
+static void list_rejects(struct case_file *file)
+{
+    struct byte_string string = {.length = 0};
+    struct phy_event open = sample_event(EVENT_TX_OPEN);
+
+    for (uint64_t reason = 0; reason <= 7; reason++) {
+        struct phy_event reject = {.code = EVENT_OPEN_REJECT, .argument = {reason}};
+
+        add_event(&string, &open);
+        add_event(&string, &reject);
+        add_event(&string, &open);
+        add_byte(&string, EVENT_CANCEL_OPEN);
+        add_event(&string, &reject);
+    }
+    list_string(file, &string);
+}
+
+static void list_scripts(struct case_file *file)
+{
+    for (size_t i = 0; i < phy_script_count; i++) {
+        struct pieces trace;
+
+        if (pieces_of_script(&trace, phy_scripts[i]) <= MOST_SCRIPT_EVENTS) {
+            listing_case(file, &trace);
+        }
+    }
+}
+
+/* The two that only a thousand ticks bring about: Open Timeout and Close Timeout. */
+static void list_timeouts(struct case_file *file)
+{
+    static const struct phy_item items[SCRIPT_ITEMS] = {
+        TX_OPEN(7, 1, 0), PLAIN(2000, EVENT_TICK), TX_OPEN(7, 1, 0), PLAIN(1, EVENT_OPEN_ACCEPT),
+        PLAIN(1, EVENT_CLOSE_CONNECTION), PLAIN(1000, EVENT_TICK), PLAIN(1, EVENT_BREAK)
+    };
+    struct pieces trace;
+
+    pieces_of_script(&trace, items);
+    listing_case(file, &trace);
+}
+
+static void list_all_events(struct case_file *file)
+{
+    for (size_t i = 0; i < sizeof ways / sizeof ways[0]; i++) {
+        list_every_code(file, ways[i], EVENT_ACCEPT_OPENS);
+        list_every_code(file, ways[i], EVENT_REJECT_OPENS);
+    }
+    list_rejects(file);
+    list_scripts(file);
+    list_timeouts(file);
+}
+
+/* ---- Every kind of stop ---- */
+
+static void list_fault(struct case_file *file, size_t before, size_t which, enum number_fault fault)
+{
+    struct byte_string string = {.length = 0};
+    struct phy_event open = sample_event(EVENT_TX_OPEN);
+
+    for (size_t i = 0; i < before; i++) {
+        add_event(&string, &phy_tour[i]);
+    }
+    add_event_numbers(&string, &open, 0, which);
+    add_fault(&string, fault);
+    if (fault != FAULT_CUT) {
+        add_event_numbers(&string, &open, which + 1, event_numbers(&open));
+        add_byte(&string, EVENT_TICK);
+    }
+    list_string(file, &string);
+}
+
+static void list_faults(struct case_file *file)
+{
+    const size_t befores[] = {0, 1, 7, phy_tour_count};
+    const struct phy_event open = sample_event(EVENT_TX_OPEN);
+
+    for (size_t i = 0; i < sizeof befores / sizeof befores[0]; i++) {
+        for (size_t which = 0; which < event_numbers(&open); which++) {
+            for (enum number_fault fault = FAULT_OUT_OF_RANGE; fault < NUMBER_FAULTS; fault++) {
+                list_fault(file, befores[i], which, fault);
+            }
+        }
+    }
+}
+
+/* ---- Long traces ---- */
+
+static void add_long_cycle(struct pieces *trace, size_t most)
+{
+    struct byte_string cycle = {.length = 0};
+
+    for (int i = 0; i < LONG_EVENTS; i++) {
+        add_event(&cycle, &widest_tx_open);
+    }
+    add_event(&cycle, &widest_inbound);
+    add_byte(&cycle, EVENT_TICK);
+    pieces_add_string(trace, (most - trace->length) / cycle.length, &cycle);
+}
+
+static void list_longest(struct case_file *file)
+{
+    struct pieces trace;
+
+    pieces_clear(&trace);
+    add_long_cycle(&trace, LISTING_MOST_BYTES);
+    pieces_add_event(&trace, LISTING_MOST_BYTES - trace.length, plain_event(EVENT_TICK));
+    listing_case(file, &trace);
+}
+
+/* The last event begins within the longest trace and would end one byte after it. */
+static void list_longest_cut(struct case_file *file)
+{
+    struct byte_string last = {.length = 0};
+    struct pieces trace;
+
+    add_event(&last, &widest_tx_open);
+    last.length--;
+    pieces_clear(&trace);
+    pieces_add_event(&trace, (LISTING_MOST_BYTES - last.length) / (last.length + 1), widest_tx_open);
+    pieces_add_event(&trace, LISTING_MOST_BYTES - last.length - trace.length, plain_event(EVENT_TICK));
+    pieces_add_string(&trace, 1, &last);
+    listing_case(file, &trace);
+}
+
+/* Wrong from its first byte on, which is told unless the trace is too long. */
+static void list_filled(struct case_file *file, uint8_t byte, uint64_t length)
+{
+    struct pieces trace;
+
+    pieces_clear(&trace);
+    pieces_add(&trace, length, &byte, 1);
+    listing_case(file, &trace);
+}
+
+static void list_long_traces(struct case_file *file)
+{
+    list_longest(file);
+    list_longest_cut(file);
+    list_filled(file, 0x00, LISTING_MOST_BYTES);
+    list_filled(file, 0xFF, LISTING_MOST_BYTES);
+    list_filled(file, 0x00, LISTING_MOST_BYTES + 1);
+    list_filled(file, 0xFF, LISTING_MOST_BYTES + 1);
+    list_filled(file, EVENT_TICK, LISTING_MOST_BYTES + 1);
+}
+
+/* ---- Seeded walks ---- */
+
+static struct byte_string random_walk(struct case_file *file, size_t events)
+{
+    struct byte_string string = {.length = 0};
+    struct phy now = phy_fresh();
+
+    for (size_t i = 0; i < events; i++) {
+        uint64_t code = random_likely_code(file, now.link);
+
+        if (case_random_one_in(file, 6)) {
+            code = EVENT_TX_OPEN + case_random_below(file, EVENT_PHY_DISABLED);
+        }
+
+        struct phy_event event = random_event_of(file, code);
+
+        add_event(&string, &event);
+        now = phy_step(now, event).phy;
+    }
+    return string;
+}
+
+static void list_random_walks(struct case_file *file)
+{
+    for (int i = 0; i < RANDOM_WALKS; i++) {
+        struct byte_string string = random_walk(file, WALK_EVENTS);
+
+        list_string(file, &string);
+    }
+    for (int i = 0; i < DAMAGED_WALKS; i++) {
+        struct byte_string string = random_walk(file, SHORT_EVENTS);
+
+        random_damage(file, &string);
+        list_string(file, &string);
+    }
+}
+
+void make_listing_cases(struct case_file *file)
+{
+    list_nothing(file);
+    list_paper_example(file);
+    list_all_events(file);
+    list_faults(file);
+    list_long_traces(file);
+    list_random_walks(file);
+}
+
+/* ---- Traces from a folder ---- */
+
+static void take_named_trace(void *lent, const uint8_t *bytes, size_t length)
+{
+    struct case_file *file = lent;
+
+    list_bytes(file, bytes, length);
+}
+
+bool make_named_listing_cases(struct case_file *file, const char *folder)
+{
+    return hex_folder_read(folder, take_named_trace, file);
+}

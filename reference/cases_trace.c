@@ -1,0 +1,223 @@
+#include "cases.h"
+
+#include "case_trace.h"
+#include "number.h"
+
+#include <string.h>
+
+enum {
+    /* What the copy is filled with, so that what no event was written over shows. */
+    UNTOUCHED = 0xFF,
+    MOST_EVENTS = MOST_LISTED_EVENTS,
+    SHORT_EVENTS = 8,
+    DAMAGED_TRACES = 3,
+    RANDOM_TRACES = 10,
+    RANDOM_DAMAGES = 250
+};
+
+struct event_list {
+    size_t count;
+    struct phy_event events[MOST_EVENTS];
+};
+
+static void trace_case(struct case_file *file, const struct byte_string *trace)
+{
+    uint8_t copy[STRING_ROOM];
+    size_t place = 0;
+    struct event_read got = event_read(trace->bytes, trace->length, place);
+
+    case_number(file, KIND_TRACE);
+    case_bytes(file, trace->bytes, trace->length);
+    memset(copy, UNTOUCHED, trace->length);
+    while (got.found == FOUND_EVENT) {
+        expect_event_read(file, KIND_TRACE, &got);
+        event_write(&got.event, copy, trace->length, place);
+        place = got.next;
+        got = event_read(trace->bytes, trace->length, place);
+    }
+    expect_event_read(file, KIND_TRACE, &got);
+    expect_repeats(file, KIND_TRACE, copy, trace->length);
+}
+
+static struct byte_string trace_of(const struct event_list *list)
+{
+    struct byte_string trace = {.length = 0};
+
+    for (size_t i = 0; i < list->count; i++) {
+        add_event(&trace, &list->events[i]);
+    }
+    return trace;
+}
+
+/* ---- Damage, at every place in turn ---- */
+
+static void cut_everywhere(struct case_file *file, struct byte_string trace)
+{
+    while (trace.length > 0) {
+        trace.length--;
+        trace_case(file, &trace);
+    }
+}
+
+static void change_every_byte(struct case_file *file, const struct byte_string *trace)
+{
+    for (size_t i = 0; i < trace->length; i++) {
+        const uint8_t changed[] = {0x00, 0xFF, trace->bytes[i] ^ 0x80, (uint8_t)case_random(file)};
+
+        for (size_t k = 0; k < sizeof changed; k++) {
+            struct byte_string damaged = *trace;
+
+            damaged.bytes[i] = changed[k];
+            trace_case(file, &damaged);
+        }
+    }
+}
+
+static void add_padded_event(struct byte_string *trace, const struct phy_event *event, size_t which)
+{
+    uint64_t value = event_number(event, which);
+
+    add_event_numbers(trace, event, 0, which);
+    add_padded(trace, value, number_length(value) + 1);
+    add_event_numbers(trace, event, which + 1, event_numbers(event));
+}
+
+static void pad_number(struct case_file *file, const struct event_list *list, size_t hit, size_t which)
+{
+    struct byte_string trace = {.length = 0};
+
+    for (size_t i = 0; i < list->count; i++) {
+        if (i == hit) {
+            add_padded_event(&trace, &list->events[i], which);
+        } else {
+            add_event(&trace, &list->events[i]);
+        }
+    }
+    trace_case(file, &trace);
+}
+
+static void pad_every_number(struct case_file *file, const struct event_list *list)
+{
+    for (size_t hit = 0; hit < list->count; hit++) {
+        for (size_t which = 0; which < event_numbers(&list->events[hit]); which++) {
+            pad_number(file, list, hit, which);
+        }
+    }
+}
+
+static void damage_everywhere(struct case_file *file, const struct event_list *list)
+{
+    struct byte_string trace = trace_of(list);
+
+    trace_case(file, &trace);
+    cut_everywhere(file, trace);
+    change_every_byte(file, &trace);
+    pad_every_number(file, list);
+}
+
+/* ---- Whole traces ---- */
+
+static struct event_list every_code(void)
+{
+    struct event_list list = {.count = 0};
+
+    for (uint64_t code = EVENT_TX_OPEN; code <= EVENT_PHY_DISABLED; code++) {
+        list.events[list.count++] = sample_event(code);
+    }
+    return list;
+}
+
+static void all_valid_events(struct case_file *file)
+{
+    struct event_list list;
+
+    list.count = list_valid_events(list.events);
+
+    struct byte_string trace = trace_of(&list);
+
+    trace_case(file, &trace);
+}
+
+/* As long as a case allows, to the last byte; then with its last event cut. */
+static void longest_trace(struct case_file *file)
+{
+    struct byte_string event = {.length = 0};
+    struct byte_string trace = {.length = 0};
+
+    add_event(&event, &widest_tx_open);
+    while (trace.length + event.length <= STRING_ROOM) {
+        add_event(&trace, &widest_tx_open);
+    }
+    add_fill(&trace, EVENT_TICK, STRING_ROOM - trace.length);
+    trace_case(file, &trace);
+    trace.length -= event.length;
+    trace_case(file, &trace);
+}
+
+static uint64_t random_address(struct case_file *file)
+{
+    uint64_t address = case_random(file);
+
+    return address >> case_random_below(file, 64);
+}
+
+static struct phy_event random_wide_event(struct case_file *file)
+{
+    static const uint64_t with_arguments[] = {EVENT_TX_OPEN, EVENT_OPEN_RECEIVED, EVENT_OPEN_REJECT};
+    uint64_t code = EVENT_TX_OPEN + case_random_below(file, EVENT_PHY_DISABLED);
+
+    if (case_random_one_in(file, 3)) {
+        code = case_random_of(file, with_arguments, sizeof with_arguments / sizeof with_arguments[0]);
+    }
+
+    struct phy_event event = random_event_of(file, code);
+
+    if (code == EVENT_TX_OPEN || code == EVENT_OPEN_RECEIVED) {
+        event.argument[0] = random_address(file);
+    }
+    return event;
+}
+
+static struct event_list random_list(struct case_file *file, size_t count)
+{
+    struct event_list list = {.count = 0};
+
+    while (list.count < count) {
+        list.events[list.count++] = random_wide_event(file);
+    }
+    return list;
+}
+
+static void random_damaged_trace(struct case_file *file)
+{
+    struct event_list list = random_list(file, 1 + (size_t)case_random_below(file, SHORT_EVENTS));
+    struct byte_string trace = trace_of(&list);
+
+    random_damage(file, &trace);
+    trace_case(file, &trace);
+}
+
+void make_whole_trace_cases(struct case_file *file)
+{
+    const struct byte_string empty = {.length = 0};
+    const struct event_list codes = every_code();
+
+    trace_case(file, &empty);
+    damage_everywhere(file, &codes);
+    all_valid_events(file);
+    longest_trace(file);
+    for (int i = 0; i < DAMAGED_TRACES; i++) {
+        struct event_list list = random_list(file, SHORT_EVENTS);
+
+        damage_everywhere(file, &list);
+    }
+    for (int i = 0; i < RANDOM_TRACES; i++) {
+        struct event_list list = random_list(file, MOST_EVENTS);
+        struct byte_string trace = trace_of(&list);
+
+        trace_case(file, &trace);
+    }
+    for (int i = 0; i < RANDOM_DAMAGES; i++) {
+        random_damaged_trace(file);
+    }
+}

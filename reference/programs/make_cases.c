@@ -1,0 +1,91 @@
+#include "cases.h"
+
+#include <stdio.h>
+#include <stdlib.h>
+
+/* Each machine has its own seed, so more cases for one leave those of the others as they are. */
+enum case_seed {
+    SEED_NUMBER = 1001,
+    SEED_DWS = 2002,
+    SEED_IDENTIFY = 3003,
+    SEED_PHY = 4004,
+    SEED_READ_EVENT = 6006,
+    SEED_WRITE_EVENT = 7007,
+    SEED_TRACE = 8008,
+    SEED_RUN = 9009,
+    SEED_LISTING = 10010
+};
+
+static bool open_cases(struct case_file *file, const char *folder, const char *program)
+{
+    bool opened = case_file_open(file, folder, program);
+
+    if (!opened) {
+        fprintf(stderr, "make_cases: cannot open %s/%s/stdin and stdout\n", folder, program);
+    }
+    return opened;
+}
+
+static bool close_cases(struct case_file *file)
+{
+    bool whole = case_file_close(file);
+
+    if (!whole) {
+        fputs("make_cases: cannot write the whole of the files\n", stderr);
+    }
+    return whole;
+}
+
+static bool make_machine_cases(const char *folder)
+{
+    struct case_file file;
+
+    if (!open_cases(&file, folder, "cases")) {
+        return false;
+    }
+    file.random = SEED_NUMBER;
+    make_number_cases(&file);
+    file.random = SEED_DWS;
+    make_dws_cases(&file);
+    file.random = SEED_IDENTIFY;
+    make_identify_cases(&file);
+    file.random = SEED_PHY;
+    make_phy_cases(&file);
+    return close_cases(&file);
+}
+
+static bool make_trace_cases(const char *folder, const char *traces)
+{
+    struct case_file file;
+
+    if (!open_cases(&file, folder, "trace_cases")) {
+        return false;
+    }
+    file.random = SEED_READ_EVENT;
+    make_read_event_cases(&file);
+    file.random = SEED_WRITE_EVENT;
+    make_write_event_cases(&file);
+    file.random = SEED_TRACE;
+    make_whole_trace_cases(&file);
+    file.random = SEED_RUN;
+    make_run_cases(&file);
+    file.random = SEED_LISTING;
+    make_listing_cases(&file);
+
+    bool named = make_named_listing_cases(&file, traces);
+
+    return close_cases(&file) && named;
+}
+
+int main(int argc, char **argv)
+{
+    if (argc != 3) {
+        fputs("usage: make_cases FOLDER TRACES\n", stderr);
+        return EXIT_FAILURE;
+    }
+
+    bool machines = make_machine_cases(argv[1]);
+    bool traces = make_trace_cases(argv[1], argv[2]);
+
+    return machines && traces ? EXIT_SUCCESS : EXIT_FAILURE;
+}

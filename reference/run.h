@@ -1,0 +1,35 @@
+#ifndef RUN_H
+#define RUN_H
+
+#include "phy.h"
+
+enum run_stop {
+    STOPPED_AT_END = 0,
+    STOPPED_AT_BUDGET = 1,
+    STOPPED_AT_FAULT = 2
+};
+
+/* Fault and place are 0 unless the run stopped at a fault; a refused run has zeros but for the phy. */
+struct run_result {
+    unsigned refusal;
+    size_t count;
+    enum run_stop stop;
+    unsigned fault;
+    size_t place;
+    struct phy phy;
+};
+
+/* The bytes a run reads, and those it is lent to write to. */
+struct run_trace {
+    const uint8_t *bytes;
+    size_t length;
+};
+
+struct run_buffer {
+    uint8_t *bytes;
+    size_t length;
+};
+
+struct run_result run(struct phy phy, struct run_trace trace, uint64_t budget, struct run_buffer lent);
+
+#endif
