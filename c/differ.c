@@ -25,6 +25,7 @@ enum {
     IDENTIFY_FIELDS = sizeof(struct louravela_identify) / sizeof(uint64_t),
     EVENT_FIELDS = sizeof(struct louravela_event) / sizeof(uint64_t),
     WALK_STEPS = 256,
+    TRACES = 6,
     TRACE_EVENTS = 24,
     MOST_TRACE = 512,
     MOST_SHOWN = 20
@@ -559,10 +560,14 @@ int main(int argc, char **argv)
 {
     uint64_t rounds = argc > 1 ? strtoull(argv[1], NULL, 10) : 100;
     uint64_t first = argc > 2 ? strtoull(argv[2], NULL, 10) : 1;
+    struct louravela_phy phy;
 
     for (seed = first; seed < first + rounds; seed++) {
         random_state = seed * UINT64_C(0xD1342543DE82EF95);
-        walk_trace(walk_phy());
+        phy = walk_phy();
+        for (int i = 0; i < TRACES; i++) {
+            walk_trace(phy);
+        }
         walk_numbers();
         walk_dws();
         walk_identify();
