@@ -23,11 +23,6 @@ struct hex_text {
     int character;
 };
 
-struct hex_bytes {
-    size_t length;
-    uint8_t bytes[HEX_FILE_MOST_BYTES];
-};
-
 /* ---- The text; what is wrong is told as a message, nothing wrong as none ---- */
 
 static void next_character(struct hex_text *text)
@@ -111,7 +106,7 @@ static const char *take_text(struct hex_text *text, struct hex_bytes *into)
     return wrong;
 }
 
-static bool read_hex_file(const char *path, struct hex_bytes *into)
+bool hex_file_read(const char *path, struct hex_bytes *into)
 {
     struct hex_text text = {.stream = fopen(path, "rb"), .line = 1, .character = ' '};
 
@@ -156,7 +151,7 @@ static bool take_file(const char *folder, const char *name, hex_taker *take, voi
         fprintf(stderr, "%s/%s: the path is too long\n", folder, name);
         return false;
     }
-    if (!read_hex_file(path, &read)) {
+    if (!hex_file_read(path, &read)) {
         return false;
     }
     take(lent, read.bytes, read.length);

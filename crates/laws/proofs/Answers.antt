@@ -18,7 +18,7 @@ use Rattle.laws.specs.Waiting.{waits, isAnswer, heard}
 use Rattle.laws.specs.Laws.{AnswersComeFromWaiting, ArgumentsExactly}
 use Rattle.laws.proofs.Shapes.{by-shape}
 use Rattle.laws.proofs.OneStep.{Nothing, Taken, Kept, Answered, Tally, Stepping, longer-known}
-use Rattle.laws.proofs.ByEvent.{asked, asked4}
+use Rattle.laws.proofs.InUse.{asked}
 use Rattle.laws.proofs.Steps.{by-way}
 
 -- ---- the four kinds, by whether a request waits before and after
@@ -74,9 +74,9 @@ request-known : (p : Phy) → validOf p ≡ true → waits (p .port) ≡ true �
 request-known =
     by-shape (λ p. waits (p .port) ≡ true → openKnown (p .request) ≡ true)
     (λ f v w. absurd (false≢true w)) (λ f v w. absurd (false≢true w)) (λ f v w. absurd (false≢true w))
-    (λ f v w. asked v) (λ f v w. asked v) (λ f v w. asked v)
+    (λ f v w. asked refl v) (λ f v w. asked refl v) (λ f v w. asked refl v)
     (λ f v w. absurd (false≢true w)) (λ f v w. absurd (false≢true w)) (λ f v w. absurd (false≢true w)) (λ f v w. absurd (false≢true w))
-    (λ f v w. asked4 v) (λ f v w. asked4 v)
+    (λ f v w. asked refl v) (λ f v w. asked refl v)
 
 heard-known : (p : Phy) (e : Event) → validOf p ≡ true → waits (p .port) ≡ true → openKnown (heard p e) ≡ true
 unfolding heard

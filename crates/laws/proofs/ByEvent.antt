@@ -3,15 +3,14 @@ use Prim.Native.Nat.{ℕ, _-_, _≤_}
 use mathlib.Core.Bool.{Bool, true, false, _&&_, _||_, false≢true}
 use mathlib.Core.Path.{_≡_, refl}
 use native.Mathlib.Omega.{arith}
-use borrow.Author.Tests.{eqb-true, leb-true}
+use borrow.Author.Tests.{leb-true}
 use lib.Dec.{eqb, leb}
 use Rattle.table.proofs.Laws.{by-test, by-pick, each, parts}
 use Rattle.event.specs.Names.{STP, SMP, txOpen, tick, phyDisabled, mostAddress, mostReject}
 use Rattle.event.specs.Table.{argumentRange, argumentsKnown, codeKnown, knownOf, openOf, openKnown}
 use Rattle.event.specs.declared.Event.{Event}
-use Rattle.event.specs.declared.Open.{Open}
 use Rattle.phy.specs.Names.{fullTimer, openTimeout, openBroken, portLayerRequest}
-use Rattle.phy.specs.State.{noOpen, idle, requesting, selected, connected, isNoOpen, validPair, validTimer, validRequest, validInbound, validOf, withTimer, withRequest}
+use Rattle.phy.specs.State.{isNoOpen, validRequest, validOf, withTimer, withRequest}
 use Rattle.phy.specs.Moves.{toIdle, openByLink, onTxOpen, onCancelOpen, onCloseConnection, onSmpBreak, onAccept, onOpenReceived, onOpenAccept, rejectAnswer, onOpenReject, onAip, onBreak, onClose, longer, aged, tickRequesting, tickClosing, tickBreaking, openedBy, accepted, tickSelected, onTickAged, onTick, onReset}
 use Rattle.phy.specs.Step.{moveOf}
 use Rattle.phy.specs.declared.Settings.{Settings}
@@ -20,110 +19,8 @@ use Rattle.laws.specs.Waiting.{waits, isAnswer, heard, left}
 use Rattle.laws.proofs.Tests.{either, at-number, in-range, in-use}
 use Rattle.laws.proofs.Shapes.{Fields, phyOf, Facts, by-shape}
 use Rattle.laws.proofs.OneStep.{setsFlag, Stepping, valid-of, still, open-known, protocol-known, longer-known, timed, at-least-one, timed-down}
-
--- an Open whose arguments are all zero is none
-is-no-open : (o : Open) → isNoOpen o ≡ true → o ≡ noOpen
-is-no-open o h =
-    let f = parts (eqb (o .destination) 0 && eqb (o .protocol) 0 && eqb (o .rate) 0 && eqb (o .tag) 0 && eqb (o .blocked) 0) (eqb (o .wait) 0) h in
-    let e = parts (eqb (o .destination) 0 && eqb (o .protocol) 0 && eqb (o .rate) 0 && eqb (o .tag) 0) (eqb (o .blocked) 0) (f .0) in
-    let d = parts (eqb (o .destination) 0 && eqb (o .protocol) 0 && eqb (o .rate) 0) (eqb (o .tag) 0) (e .0) in
-    let c = parts (eqb (o .destination) 0 && eqb (o .protocol) 0) (eqb (o .rate) 0) (d .0) in
-    let b = parts (eqb (o .destination) 0) (eqb (o .protocol) 0) (c .0) in
-    λ i. record { destination = eqb-true (o .destination) 0 (b .0) i; protocol = eqb-true (o .protocol) 0 (b .1) i; rate = eqb-true (o .rate) 0 (c .1) i; tag = eqb-true (o .tag) 0 (d .1) i; blocked = eqb-true (o .blocked) 0 (e .1) i; wait = eqb-true (o .wait) 0 (f .1) i }
-
--- ---- what validity says of the fields in use
-
-pub asked : {link : ℕ} {f : Fields} → Facts link 2 f → openKnown (f .request) ≡ true
-unfolding validRequest
-asked {f = f} h = in-range (openKnown (f .request)) (isNoOpen (f .request)) (h .request)
-
-pub asked4 : {link : ℕ} {f : Fields} → Facts link 4 f → openKnown (f .request) ≡ true
-unfolding validRequest
-asked4 {f = f} h = in-range (openKnown (f .request)) (isNoOpen (f .request)) (h .request)
-
-runs1 : {port : ℕ} {f : Fields} → Facts 1 port f → timed (f .timer) ≡ true
-runs1 {f = f} h = in-range (timed (f .timer)) (eqb (f .timer) 0) (h .timer)
-
-runs4 : {port : ℕ} {f : Fields} → Facts 4 port f → timed (f .timer) ≡ true
-runs4 {f = f} h = in-range (timed (f .timer)) (eqb (f .timer) 0) (h .timer)
-
-pub runs5 : {port : ℕ} {f : Fields} → Facts 5 port f → timed (f .timer) ≡ true
-runs5 {f = f} h = in-range (timed (f .timer)) (eqb (f .timer) 0) (h .timer)
-
-inbounds : {port : ℕ} {f : Fields} → Facts 2 port f → leb (f .inbound) STP ≡ true
-unfolding validInbound
-inbounds {f = f} h =
-    parts (leb (f .source) mostAddress) (leb (f .inbound) STP) (in-range (leb (f .source) mostAddress && leb (f .inbound) STP) (eqb (f .source) 0 && eqb (f .inbound) 0) (h .inbound)) .1
-
-sources : {port : ℕ} {f : Fields} → Facts 2 port f → leb (f .source) mostAddress ≡ true
-unfolding validInbound
-sources {f = f} h =
-    parts (leb (f .source) mostAddress) (leb (f .inbound) STP) (in-range (leb (f .source) mostAddress && leb (f .inbound) STP) (eqb (f .source) 0 && eqb (f .inbound) 0) (h .inbound)) .0
-
-linked : {link : ℕ} {f : Fields} → Facts link 3 f → leb (f .connection) STP ≡ true
-linked {f = f} h = in-range (leb (f .connection) STP) (eqb (f .connection) 0) (h .connection)
-
--- in P1 no request is kept
-no-request : {link : ℕ} {f : Fields} → Facts link 1 f → f .request ≡ noOpen
-unfolding validRequest
-no-request {f = f} v = is-no-open (f .request) (v .request)
-
--- ---- the shapes that moves lead to are valid
-
-idle-valid : (s : Settings) → validOf (idle s) ≡ true
-unfolding validOf validRequest validInbound
-idle-valid s = refl
-
-requesting-valid : (s : Settings) (t : ℕ) (o : Open) → timed t ≡ true → openKnown o ≡ true → validOf (requesting s 1 2 t o 0) ≡ true
-unfolding validOf validRequest validInbound
-requesting-valid s t o ht ho = rw (ht, ho)
-
-waiting-valid : (s : Settings) (o : Open) → openKnown o ≡ true → validOf (requesting s 6 2 0 o 0) ≡ true
-unfolding validOf validRequest validInbound
-waiting-valid s o ho = rw ho
-
-breaking-valid : (s : Settings) → validOf (requesting s 6 1 0 noOpen 0) ≡ true
-unfolding validOf validRequest validInbound
-breaking-valid s = refl
-
-broken-valid : (s : Settings) (o : Open) → openKnown o ≡ true → validOf (requesting s 6 4 0 o openBroken) ≡ true
-unfolding validOf validRequest validInbound
-broken-valid s o ho = rw ho
-
-giving-up-valid : (s : Settings) (o : Open) (reason : ℕ) → openKnown o ≡ true → eqb reason openTimeout || eqb reason portLayerRequest ≡ true → validOf (requesting s 5 4 fullTimer o reason) ≡ true
-unfolding validOf validRequest validInbound
-giving-up-valid s o reason ho hr = rw (ho, hr)
-
-selected-valid : (s : Settings) (source inbound : ℕ) → leb source mostAddress ≡ true → leb inbound STP ≡ true → validOf (selected s 1 noOpen source inbound) ≡ true
-unfolding validOf validRequest validInbound
-selected-valid s source inbound hs hi = rw (hs, hi)
-
-selected-waiting-valid : (s : Settings) (o : Open) (source inbound : ℕ) → openKnown o ≡ true → leb source mostAddress ≡ true → leb inbound STP ≡ true → validOf (selected s 2 o source inbound) ≡ true
-unfolding validOf validRequest validInbound
-selected-waiting-valid s o source inbound ho hs hi = rw (ho, hs, hi)
-
-connected-valid : (s : Settings) (c : ℕ) (closed : Bool) → leb c STP ≡ true → validOf (connected s 3 0 c closed) ≡ true
-unfolding validOf validRequest validInbound
-connected-valid s c closed hc = rw hc
-
-closing-valid : (s : Settings) (c : ℕ) → leb c STP ≡ true → validOf (connected s 4 fullTimer c false) ≡ true
-unfolding validOf validRequest validInbound
-closing-valid s c hc = rw hc
-
-cutting-valid : (s : Settings) (c : ℕ) → leb c STP ≡ true → validOf (connected s 5 fullTimer c false) ≡ true
-unfolding validOf validRequest validInbound
-cutting-valid s c hc = rw hc
-
-cut-valid : (s : Settings) (c : ℕ) → leb c STP ≡ true → validOf (connected s 6 0 c false) ≡ true
-unfolding validOf validRequest validInbound
-cut-valid s c hc = rw hc
-
--- the same phy with its timer one less
-counted-valid : (link port : ℕ) (f : Fields) (t : ℕ) → validPair link port ≡ true → validTimer link t ≡ true → Facts link port f → validOf (withTimer (phyOf link port f) t) ≡ true
-counted-valid link port f t v ht h =
-    valid-of link port
-    (record { timer = t; request = f .request; reason = f .reason; source = f .source; inbound = f .inbound; connection = f .connection; closed = f .closed; settings = f .settings })
-    v (record { timer = ht; request = h .request; reason = h .reason; inbound = h .inbound; connection = h .connection; closed = h .closed })
+use Rattle.laws.proofs.InUse.{asked, runs, inbounds, sources, linked, no-request}
+use Rattle.laws.proofs.Reached.{idle-valid, requesting-valid, waiting-valid, breaking-valid, broken-valid, giving-up-valid, selected-valid, selected-waiting-valid, connected-valid, closing-valid, cutting-valid, cut-valid, counted-valid}
 
 -- an event of a code
 abbrev pub event : (code a b c d g h : ℕ) → Event
@@ -177,7 +74,7 @@ on-cancel-open a b c d g h =
     let n = still e 4 refl refl (omega arith) in
     by-shape (λ p. Stepping p e (onCancelOpen p))
     (n 0 1 refl) (n 2 1 refl) (n 6 1 refl)
-    (λ f v. record { valid = giving-up-valid (f .settings) (f .request) portLayerRequest (asked v) refl; tally = record { silent = refl; none = refl; opens = refl; request = refl; falls = omega arith }; flag = refl; reports = refl })
+    (λ f v. record { valid = giving-up-valid (f .settings) (f .request) portLayerRequest (asked refl v) refl; tally = record { silent = refl; none = refl; opens = refl; request = refl; falls = omega arith }; flag = refl; reports = refl })
     (q 2 2 refl) (q 6 2 refl) (n 3 3 refl) (n 4 3 refl) (n 5 3 refl) (n 6 3 refl) (n 5 4 refl) (n 6 4 refl)
 
 -- ---- 3, Close Connection
@@ -216,7 +113,7 @@ on-open-received a b c d g h k =
     by-shape (λ p. Stepping p e (onOpenReceived p e))
     (λ f v. record { valid = rw (no-request v) (selected-valid (f .settings) a b (w .0) (w .1)); tally = record { silent = refl; none = refl; opens = refl }; flag = refl; reports = refl })
     (q 2 1 refl) (q 6 1 refl)
-    (λ f v. record { valid = selected-waiting-valid (f .settings) (f .request) a b (asked v) (w .0) (w .1); tally = record { silent = refl; none = refl; opens = refl; request = refl; falls = omega arith }; flag = refl; reports = refl })
+    (λ f v. record { valid = selected-waiting-valid (f .settings) (f .request) a b (asked refl v) (w .0) (w .1); tally = record { silent = refl; none = refl; opens = refl; request = refl; falls = omega arith }; flag = refl; reports = refl })
     (q 2 2 refl) (q 6 2 refl) (q 3 3 refl) (q 4 3 refl) (q 5 3 refl) (q 6 3 refl) (q 5 4 refl) (q 6 4 refl)
 
 -- ---- 8, OPEN_ACCEPT: in L1 the request is answered
@@ -227,7 +124,7 @@ on-open-accept a b c d g h =
     let q = still e 0 refl refl (omega arith) in
     by-shape (λ p. Stepping p e (onOpenAccept p))
     (q 0 1 refl) (q 2 1 refl) (q 6 1 refl)
-    (λ f v. record { valid = connected-valid (f .settings) (f .request .protocol) false (protocol-known (f .request) (asked v)); tally = record { code = refl; carries = refl; opens = refl }; flag = refl; reports = refl })
+    (λ f v. record { valid = connected-valid (f .settings) (f .request .protocol) false (protocol-known (f .request) (asked refl v)); tally = record { code = refl; carries = refl; opens = refl }; flag = refl; reports = refl })
     (q 2 2 refl) (q 6 2 refl) (q 3 3 refl) (q 4 3 refl) (q 5 3 refl) (q 6 3 refl) (q 5 4 refl) (q 6 4 refl)
 
 -- ---- 5 and 6, Accept Opens and Reject Opens: the flag alone changes
@@ -288,7 +185,7 @@ on-aip a b c d g h =
     let q = still e 0 refl refl (omega arith) in
     by-shape (λ p. Stepping p e (onAip p))
     (q 0 1 refl) (q 2 1 refl) (q 6 1 refl)
-    (λ f v. record { valid = counted-valid 1 2 f fullTimer refl refl v; tally = record { silent = refl; none = refl; opens = refl; request = refl; falls = omega (arith, at-least-one (f .timer) (runs1 v)) }; flag = refl; reports = refl })
+    (λ f v. record { valid = counted-valid 1 2 f fullTimer refl refl v; tally = record { silent = refl; none = refl; opens = refl; request = refl; falls = omega (arith, at-least-one (f .timer) (runs refl v)) }; flag = refl; reports = refl })
     (q 2 2 refl) (q 6 2 refl) (q 3 3 refl) (q 4 3 refl) (q 5 3 refl) (q 6 3 refl) (q 5 4 refl) (q 6 4 refl)
 
 -- ---- 11, BREAK
@@ -301,8 +198,8 @@ on-break a b c d g h =
     (q 0 1 refl)
     (λ f v. record { valid = rw (no-request v) (breaking-valid (f .settings)); tally = record { silent = refl; none = refl; opens = refl }; flag = refl; reports = refl })
     (q 6 1 refl)
-    (λ f v. record { valid = broken-valid (f .settings) (f .request) (asked v); tally = record { silent = refl; none = refl; opens = refl; request = refl; falls = omega arith }; flag = refl; reports = refl })
-    (λ f v. record { valid = waiting-valid (f .settings) (f .request) (asked v); tally = record { silent = refl; none = refl; opens = refl; request = refl; falls = omega arith }; flag = refl; reports = refl })
+    (λ f v. record { valid = broken-valid (f .settings) (f .request) (asked refl v); tally = record { silent = refl; none = refl; opens = refl; request = refl; falls = omega arith }; flag = refl; reports = refl })
+    (λ f v. record { valid = waiting-valid (f .settings) (f .request) (asked refl v); tally = record { silent = refl; none = refl; opens = refl; request = refl; falls = omega arith }; flag = refl; reports = refl })
     (q 6 2 refl)
     (λ f v. record { valid = cut-valid (f .settings) (f .connection) (linked v); tally = record { silent = refl; none = refl; opens = refl }; flag = refl; reports = refl })
     (λ f v. record { valid = cut-valid (f .settings) (f .connection) (linked v); tally = record { silent = refl; none = refl; opens = refl }; flag = refl; reports = refl })
@@ -353,15 +250,15 @@ unfolding validRequest
 waited-valid f t ht v =
     valid-of 1 2
     (record { timer = t; request = longer (f .request); reason = f .reason; source = f .source; inbound = f .inbound; connection = f .connection; closed = f .closed; settings = f .settings })
-    refl (record { timer = in-use (timed t) (eqb t 0) ht; request = in-use (openKnown (longer (f .request))) (isNoOpen (longer (f .request))) (longer-known (f .request) (asked v)); reason = v .reason; inbound = v .inbound; connection = v .connection; closed = v .closed })
+    refl (record { timer = in-use (timed t) (eqb t 0) ht; request = in-use (openKnown (longer (f .request))) (isNoOpen (longer (f .request))) (longer-known (f .request) (asked refl v)); reason = v .reason; inbound = v .inbound; connection = v .connection; closed = v .closed })
 
 -- in L1 the request has waited longer, and the timer runs on or is over
 tick-requesting : (a b c d g h : ℕ) (f : Fields) → Facts 1 2 f → Stepping (phyOf 1 2 f) (event 13 a b c d g h) (onTick (phyOf 1 2 f))
 unfolding onTick onTickAged aged tickRequesting heard left
 tick-requesting a b c d g h f v =
-    let t = runs1 v in
+    let t = runs refl v in
     by-pick (Stepping (phyOf 1 2 f) (event 13 a b c d g h)) (leb (f .timer) 1)
-    (λ o. record { valid = giving-up-valid (f .settings) (longer (f .request)) openTimeout (longer-known (f .request) (asked v)) refl; tally = record { silent = refl; none = refl; opens = refl; request = refl; falls = omega (arith, at-least-one (f .timer) t) }; flag = refl; reports = refl })
+    (λ o. record { valid = giving-up-valid (f .settings) (longer (f .request)) openTimeout (longer-known (f .request) (asked refl v)) refl; tally = record { silent = refl; none = refl; opens = refl; request = refl; falls = omega (arith, at-least-one (f .timer) t) }; flag = refl; reports = refl })
     (λ u. record { valid = waited-valid f (f .timer - 1) (timed-down (f .timer) t u) v; tally = record { silent = refl; none = refl; opens = refl; request = refl; falls = omega (arith, at-least-one (f .timer) t) }; flag = refl; reports = refl })
 
 on-tick : (a b c d g h : ℕ) (p : Phy) → validOf p ≡ true → Stepping p (event 13 a b c d g h) (onTick p)
@@ -383,14 +280,14 @@ on-tick a b c d g h =
     (λ f v. record { valid = valid-of 3 3 f refl v; tally = record { silent = refl; none = refl; opens = refl }; flag = refl; reports = refl })
     (λ f v. by-pick (Stepping (phyOf 4 3 f) e) (leb (f .timer) 1)
     (λ _. record { valid = cutting-valid (f .settings) (f .connection) (linked v); tally = record { silent = refl; none = refl; opens = refl }; flag = refl; reports = refl })
-    (λ u. record { valid = counted-valid 4 3 f (f .timer - 1) refl (falling (f .timer) (runs4 v) u) v; tally = record { silent = refl; none = refl; opens = refl }; flag = refl; reports = refl }))
+    (λ u. record { valid = counted-valid 4 3 f (f .timer - 1) refl (falling (f .timer) (runs refl v) u) v; tally = record { silent = refl; none = refl; opens = refl }; flag = refl; reports = refl }))
     (λ f v. by-pick (Stepping (phyOf 5 3 f) e) (leb (f .timer) 1)
     (λ _. record { valid = idle-valid (f .settings); tally = record { silent = refl; none = refl; opens = refl }; flag = refl; reports = refl })
-    (λ u. record { valid = counted-valid 5 3 f (f .timer - 1) refl (falling (f .timer) (runs5 v) u) v; tally = record { silent = refl; none = refl; opens = refl }; flag = refl; reports = refl }))
+    (λ u. record { valid = counted-valid 5 3 f (f .timer - 1) refl (falling (f .timer) (runs refl v) u) v; tally = record { silent = refl; none = refl; opens = refl }; flag = refl; reports = refl }))
     (λ f v. record { valid = idle-valid (f .settings); tally = record { silent = refl; none = refl; opens = refl }; flag = refl; reports = refl })
     (λ f v. by-pick (Stepping (phyOf 5 4 f) e) (leb (f .timer) 1)
     (λ _. record { valid = idle-valid (f .settings); tally = record { code = reason5 v; carries = refl; opens = refl }; flag = refl; reports = refl })
-    (λ u. record { valid = counted-valid 5 4 f (f .timer - 1) refl (falling (f .timer) (runs5 v) u) v; tally = record { silent = refl; none = refl; opens = refl; request = refl; falls = omega (arith, at-least-one (f .timer) (runs5 v)) }; flag = refl; reports = refl }))
+    (λ u. record { valid = counted-valid 5 4 f (f .timer - 1) refl (falling (f .timer) (runs refl v) u) v; tally = record { silent = refl; none = refl; opens = refl; request = refl; falls = omega (arith, at-least-one (f .timer) (runs refl v)) }; flag = refl; reports = refl }))
     (λ f v. record { valid = idle-valid (f .settings); tally = record { code = reason6 v; carries = refl; opens = refl }; flag = refl; reports = refl })
 
 -- ---- any known event

@@ -1,6 +1,8 @@
 pub mod Tests
 pub mod Shapes
 pub mod OneStep
+pub mod InUse
+pub mod Reached
 pub mod ByEvent
 pub mod Steps
 pub mod Refusals

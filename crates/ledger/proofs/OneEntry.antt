@@ -24,7 +24,7 @@ use Rattle.laws.specs.Laws.{Judged}
 use Rattle.laws.proofs.Refusals.{moves, taken-exactly}
 use Rattle.laws.proofs.Shapes.{by-shape}
 use Rattle.laws.proofs.OneStep.{Stepping, wait-known, open-known, at-least-one}
-use Rattle.laws.proofs.ByEvent.{runs5}
+use Rattle.laws.proofs.InUse.{runs}
 use Rattle.laws.proofs.Steps.{by-way}
 use Rattle.laws.proofs.Answers.{by-tally}
 use Rattle.ledger.specs.Log.{Entry, entry, taken, accepted, answered, ticked, tickedInP2, heardAip}
@@ -199,5 +199,5 @@ time-left =
     by-shape (λ p. 1 ≤ left p)
     (λ f v. omega arith) (λ f v. omega arith) (λ f v. omega arith)
     (λ f v. omega arith) (λ f v. omega arith) (λ f v. omega arith)
-    (λ f v. omega arith) (λ f v. omega arith) (λ f v. at-least-one (f .timer) (runs5 v)) (λ f v. omega arith)
-    (λ f v. at-least-one (f .timer) (runs5 v)) (λ f v. omega arith)
+    (λ f v. omega arith) (λ f v. omega arith) (λ f v. at-least-one (f .timer) (runs refl v)) (λ f v. omega arith)
+    (λ f v. at-least-one (f .timer) (runs refl v)) (λ f v. omega arith)

@@ -1,3 +1,8 @@
 pub mod Bytes
 pub mod Taking
 pub mod Loop
+pub mod Determined
+pub mod Refusals
+pub mod Stopping
+pub mod Written
+pub mod Answers

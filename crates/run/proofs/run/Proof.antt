@@ -1,6 +1,5 @@
 -- `run::run` meets its contract: valid, then room, then `take_events` does the rest.
 use mathlib.Core.Path.{sym, _∙_}
-use native.Mathlib.Omega.{arith}
 use borrow.Author.Needs.{needs}
 use Rattle.run.proofs.Loop.{not-valid, no-room, with-room}
 use Rattle.run.proofs.run.Statement.{statement}

@@ -1,0 +1,77 @@
+-- A listing ends: an event read moves the place on within the trace, and every other line is the last.
+use Prim.Native.Nat.{ℕ, suc, _+_, _-_, _≤_, _<_}
+use mathlib.Core.List.{List}
+use mathlib.Core.Path.{_≡_, refl, sym, subst, _∙_}
+use native.Mathlib.Omega.{arith}
+use borrow.Author.Tests.{leb-true, leb-false}
+use lib.ListN.{length}
+use Rattle.table.specs.Refusals.{noRoom}
+use Rattle.table.proofs.Laws.{by-test}
+use Rattle.trace.specs.Reading.{Told, event, end, readEvent}
+use Rattle.trace.specs.Reading as reading
+use Rattle.trace.specs.Laws.{MovesOn}
+use Rattle.trace.proofs.Accepted.{read-moves-on}
+use Rattle.phy.specs.declared.Phy.{Phy}
+use Rattle.listing.specs.Text.{mostLine}
+use Rattle.listing.specs.Listing.{Next, lineOf, none, afterReading, lineAt}
+use Rattle.listing.specs.Contracts.{wrote, refused, fits, bytesOf, writeNext}
+use Rattle.listing.specs.Laws.{linesLeft, LinesFall, WrittenAdvances, RoomEnough}
+use Rattle.listing.specs.declared.Progress.{Progress}
+use Rattle.listing.specs.declared.Progress.the-variants.{Header, Events, TooLong, Done}
+
+-- two answers that differ are not equal
+pub clash : {A : Type 0} → _≡_ {A = ℕ} 0 1 → A
+clash e = absurd (omega arith)
+
+-- the progress after a line is the one that the line gives
+after-line : (s : List ℕ) (k : ℕ) {bytes others : List ℕ} {next progress : Progress} → lineOf bytes next ≡ lineOf others progress → linesLeft s next < k → linesLeft s progress < k
+after-line s k {next = next} {progress = progress} e h =
+    let same : next ≡ progress = cc in
+    subst (λ (p : Progress). linesLeft s p < k) same h
+
+fall : (s : List ℕ) (place count : ℕ) (p : Phy) (t : Told) → readEvent s place ≡ t → {bytes : List ℕ} {next : Progress}
+    → afterReading place count p t ≡ lineOf bytes next → linesLeft s next < suc (length s - place)
+fall s place count p (event e after) h l =
+    let m : MovesOn s place after = read-moves-on s place e after h in
+    after-line s _ l (omega (arith, m .forward, m .within))
+fall s place count p end h l = after-line s _ l (omega arith)
+fall s place count p (reading.refused n at) h l = after-line s _ l (omega arith)
+
+pub lines-fall : LinesFall
+unfolding lineAt
+lines-fall s Header bytes next e = after-line s _ e (omega arith)
+lines-fall s (Events place count p) bytes next e = fall s place count p (readEvent s place) refl e
+lines-fall s TooLong bytes next e = after-line s _ e (omega arith)
+lines-fall s Done bytes next e = clash (cc)
+
+-- a line that is said to be written comes next, and fits
+record Written (x : Next) (before : List ℕ) (at : ℕ) (next : Progress) (n : ℕ) : Type 0 where
+  bytes : List ℕ
+  comes : x ≡ lineOf bytes next
+  room : at + n ≤ length before
+
+written-line : (x : Next) (before : List ℕ) (at : ℕ) (next : Progress) (n : ℕ) → writeNext x before at ≡ wrote next n → Written x before at next n
+written-line (lineOf bytes progress) before at next n e =
+    by-test (fits bytes before at)
+    (λ t.
+    let w : wrote progress (length bytes) ≡ wrote next n = rw t at e in
+    let long : length bytes ≡ n = cc in
+    let same : progress ≡ next = cc in
+    record { bytes = bytes; comes = rw same refl; room = omega (arith, leb-true (at + length bytes) (length before) t) })
+    (λ f. let w : refused noRoom ≡ wrote next n = rw f at e in clash (cc))
+written-line none before at next n e = clash (cc)
+
+pub written-advances : WrittenAdvances
+written-advances s progress before at r after next n w e =
+    let l : Written (lineAt s progress) before at next n = written-line (lineAt s progress) before at next n (sym (w .says) ∙ e) in
+    record { fewer = lines-fall s progress (l .bytes) next (l .comes); within = l .room }
+
+refused-line : (x : Next) (before : List ℕ) (at : ℕ) → writeNext x before at ≡ refused noRoom → length (bytesOf x) ≤ mostLine → length before < at + mostLine
+refused-line (lineOf bytes progress) before at e short =
+    by-test (fits bytes before at)
+    (λ t. let w : wrote progress (length bytes) ≡ refused noRoom = rw t at e in clash (cc))
+    (λ f. omega (arith, leb-false (at + length bytes) (length before) f))
+refused-line none before at e short = clash (cc)
+
+pub room-enough : RoomEnough
+room-enough s progress before at r after w e = refused-line (lineAt s progress) before at (sym (w .says) ∙ e) (w .short)

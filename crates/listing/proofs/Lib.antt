@@ -1,0 +1,7 @@
+pub mod Copying
+pub mod Decimal
+pub mod Parts
+pub mod Determined
+pub mod Ends
+pub mod Whole
+pub mod LastLine

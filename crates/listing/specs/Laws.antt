@@ -1,0 +1,96 @@
+-- What is promised of a listing beyond the contracts. Each statement is proved in proofs/ under the name given beside it.
+use Prim.Native.Nat.{ℕ, suc, _+_, _-_, _≤_, _<_}
+use mathlib.Core.List.{List, [], _++_}
+use mathlib.Core.Logic.{_↔_}
+use mathlib.Core.Path.{_≡_}
+use lib.ListN.{length}
+use Rattle.table.specs.Refusals.{noRoom}
+use Rattle.event.specs.declared.Event.{Event}
+use Rattle.trace.specs.Laws.{ReadsAll}
+use Rattle.listing.specs.Text.{mostLine}
+use Rattle.listing.specs.Lines.{endLine}
+use Rattle.listing.specs.Listing.{mostTrace, Lists, lineOf, none, startOf, lineAt}
+use Rattle.listing.specs.Contracts.{StartsListing, WritesLine, wrote, refused, tellsWritten}
+use Rattle.listing.specs.declared.Progress.{Progress}
+use Rattle.listing.specs.declared.Progress.the-variants.{Header, Events, TooLong, Done}
+use Rattle.listing.specs.declared.LineWritten.{LineWritten}
+
+-- ---- each answer says one thing (proofs/Determined)
+
+-- no two answers of `next_line` say the same
+abbrev pub WrittenTellsOnce : Type 0
+WrittenTellsOnce = (r q : LineWritten) → tellsWritten r ≡ tellsWritten q → r ≡ q
+
+-- two results that `start` may give coincide
+abbrev pub StartDetermined : Type 0
+StartDetermined = (length : ℕ) (r q : Progress) → StartsListing length r → StartsListing length q → r ≡ q
+
+-- two results that `next_line` may give coincide, and so do the buffers that it may leave
+abbrev pub LineDetermined : Type 0
+LineDetermined =
+    (s : List ℕ) (progress : Progress) (before : List ℕ) (at : ℕ) (r q : LineWritten) (after later : List ℕ)
+    → WritesLine s progress before at r after → WritesLine s progress before at q later → (r ≡ q) × (after ≡ later)
+
+-- ---- line by line (proofs/Ends)
+
+-- how many lines may still come
+abbrev pub linesLeft : List ℕ → Progress → ℕ
+linesLeft s Header = suc (suc (length s))
+linesLeft s (Events place count p) = suc (length s - place)
+linesLeft s TooLong = 1
+linesLeft s Done = 0
+
+-- each line leaves fewer
+abbrev pub LinesFall : Type 0
+LinesFall = (s : List ℕ) (progress : Progress) (bytes : List ℕ) (next : Progress) → lineAt s progress ≡ lineOf bytes next → linesLeft s next < linesLeft s progress
+
+-- a line written leaves fewer, and lies within the buffer
+pub record Advances (s : List ℕ) (progress next : Progress) (before : List ℕ) (at n : ℕ) : Type 0 where
+  pub fewer : linesLeft s next < linesLeft s progress
+  pub within : at + n ≤ length before
+
+abbrev pub WrittenAdvances : Type 0
+WrittenAdvances =
+    (s : List ℕ) (progress : Progress) (before : List ℕ) (at : ℕ) (r : LineWritten) (after : List ℕ) (next : Progress) (n : ℕ)
+    → WritesLine s progress before at r after → tellsWritten r ≡ wrote next n → Advances s progress next before at n
+
+-- a buffer with room for the longest line does not refuse one
+abbrev pub RoomEnough : Type 0
+RoomEnough =
+    (s : List ℕ) (progress : Progress) (before : List ℕ) (at : ℕ) (r : LineWritten) (after : List ℕ)
+    → WritesLine s progress before at r after → tellsWritten r ≡ refused noRoom → length before < at + mostLine
+
+-- ---- the whole listing (proofs/Whole)
+
+-- the lines from a progress on, end to end
+pub data Lines (s : List ℕ) : Progress → List ℕ → Type 0 where
+  over : {progress : Progress} → lineAt s progress ≡ none → Lines s progress []
+  more :
+      {progress next : Progress} {bytes others : List ℕ}
+      → lineAt s progress ≡ lineOf bytes next → Lines s next others → Lines s progress (bytes ++ others)
+
+-- every trace has a listing
+pub record Listed (s : List ℕ) : Type 0 where
+  pub bytes : List ℕ
+  pub lists : Lists s bytes
+
+abbrev pub ListingExists : Type 0
+ListingExists = (s : List ℕ) → Listed s
+
+-- and only one
+abbrev pub ListingOnce : Type 0
+ListingOnce = (s bytes others : List ℕ) → Lists s bytes → Lists s others → bytes ≡ others
+
+-- the lines from the start on are the listing, and nothing else is
+abbrev pub LinesAreListing : Type 0
+LinesAreListing = (s bytes : List ℕ) → Lines s (startOf (length s)) bytes ↔ Lists s bytes
+
+-- ---- the last line (proofs/LastLine)
+
+pub record EndsWith (bytes last : List ℕ) : Type 0 where
+  pub front : List ℕ
+  pub whole : bytes ≡ front ++ last
+
+-- the listing of a trace that is read to its end without a fault ends with the trace's length and the number of its events
+abbrev pub EndTells : Type 0
+EndTells = (s bytes : List ℕ) (es : List Event) → length s ≤ mostTrace → ReadsAll s 0 es → Lists s bytes → EndsWith bytes (endLine (length s) (length es))

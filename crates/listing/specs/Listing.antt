@@ -1,0 +1,63 @@
+-- The listing of a trace: the whole of it, and the same line by line.
+use Prim.Native.Nat.{ℕ, suc, _+_, _%_, _^_, _≤_, _<_}
+use mathlib.Core.List.{List, _++_}
+use mathlib.Core.Path.{_≡_}
+use lib.Dec.{leb}
+use lib.ListN.{length}
+use Rattle.table.specs.Choice.{pick}
+use Rattle.event.specs.declared.Event.{Event}
+use Rattle.trace.specs.Reading.{Told, event, end, refused, readEvent}
+use Rattle.phy.specs.State.{freshPhy}
+use Rattle.phy.specs.Step.{stepOf}
+use Rattle.phy.specs.declared.Phy.{Phy}
+use Rattle.listing.specs.Lines.{headerLine, eventLine, endLine, stopLine, tooLongLine}
+use Rattle.listing.specs.declared.Progress.{Progress}
+use Rattle.listing.specs.declared.Progress.the-variants.{Header, Events, TooLong, Done}
+
+-- a longer trace is not listed
+abbrev pub mostTrace : ℕ
+mostTrace = 65536
+
+-- ---- the whole listing
+
+-- these are the lines of a trace from a place on, for a phy that has come there after `count` events
+pub data ListsFrom (s : List ℕ) : (place count : ℕ) → Phy → List ℕ → Type 0 where
+  ended : {place count : ℕ} {p : Phy} → readEvent s place ≡ end → ListsFrom s place count p (endLine place count)
+  stopped : {place count n at : ℕ} {p : Phy} → readEvent s place ≡ refused n at → ListsFrom s place count p (stopLine at n)
+  taken :
+      {place count next : ℕ} {p : Phy} {e : Event} {others : List ℕ}
+      → readEvent s place ≡ event e next → ListsFrom s next (suc count) (stepOf p e .next) others
+      → ListsFrom s place count p (eventLine place e (stepOf p e) ++ others)
+
+-- these are the bytes that list a trace
+pub data Lists (s : List ℕ) : List ℕ → Type 0 where
+  listed : {others : List ℕ} → length s ≤ mostTrace → ListsFrom s 0 0 freshPhy others → Lists s (headerLine ++ others)
+  tooLong : mostTrace < length s → Lists s tooLongLine
+
+-- ---- line by line
+
+-- what comes next: the bytes of a line and the progress after it, or nothing
+pub data Next : Type 0 where
+  lineOf : List ℕ → Progress → Next
+  none : Next
+
+-- before the first line of a trace of a length
+abbrev pub startOf : (length : ℕ) → Progress
+startOf length = pick (leb length mostTrace) Header TooLong
+
+-- one event more; the number goes round past 2^64 - 1, to which no trace that is listed comes
+abbrev pub oneMore : ℕ → ℕ
+oneMore count = (count + 1) % 2 ^ 64
+
+-- the line of what stands at a place
+abbrev pub afterReading : (place count : ℕ) → Phy → Told → Next
+afterReading place count p (event e next) = lineOf (eventLine place e (stepOf p e)) (Events next (oneMore count) (stepOf p e .next))
+afterReading place count p end = lineOf (endLine place count) Done
+afterReading place count p (refused n at) = lineOf (stopLine at n) Done
+
+-- the next line at any progress
+unfoldable pub lineAt : List ℕ → Progress → Next
+lineAt s Header = lineOf headerLine (Events 0 0 freshPhy)
+lineAt s (Events place count p) = afterReading place count p (readEvent s place)
+lineAt s TooLong = lineOf tooLongLine Done
+lineAt s Done = none

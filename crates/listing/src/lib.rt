@@ -1,0 +1,119 @@
+// The listing of a trace, line by line: what a fresh phy does at each event. Whoever lists holds a
+// `Progress` and asks for one line after the other.
+mod lines;
+mod text;
+
+ghost use mathlib.Core.List.{List};
+ghost use Prim.Native.Nat.{ℕ, _≤_};
+ghost use Rattle.listing.specs.Text.{Holds, mostLine};
+ghost use Rattle.listing.specs.Lines.{stopLine};
+ghost use Rattle.listing.specs.Listing.{lineOf, afterReading};
+ghost use Rattle.listing.specs.Contracts.{StartsListing, PutsLine, WritesLine};
+ghost use Rattle.listing.specs.declared.Progress.the-variants.{Done as Progress·Done};
+ghost use Rattle.trace.specs.Reading.{readEvent};
+use phy::Phy;
+use text::Text;
+use trace::EventRead;
+
+// A longer trace is not listed.
+pub const MOST_TRACE: usize = 65536;
+
+// What the next line is of: the header, what stands at a place of the trace, a trace that is too long,
+// or nothing more.
+pub enum Progress {
+    Header,
+    Events { place: usize, count: u64, phy: Phy },
+    TooLong,
+    Done,
+}
+
+// What writing a line did: the progress after it and how many bytes it wrote, or why it wrote none.
+pub enum LineWritten {
+    Line { next: Progress, length: usize },
+    Done,
+    NoRoom,
+}
+
+// The progress before the first line of a trace of a length.
+pub fn start(length: usize) -> Progress
+    ensures { λ r. ⌜ StartsListing length r ⌝ }
+{
+    if length <= MOST_TRACE {
+        Progress::Header
+    } else {
+        Progress::TooLong
+    }
+}
+
+// A line's text at a place of a buffer, if all of it fits.
+fn put_line(text: Text, next: Progress, out: &mut [u8], at: usize) -> LineWritten
+    requires { ⌜ text .length ≤ mostLine ⌝ }
+    ensures { λ r. ⌜ ((bytes : List ℕ) → Holds text bytes → PutsLine (lineOf bytes next) (now (out .entry)) at r (now (out .exit))) ⌝ }
+{
+    let length = text.length;
+    if out.len() < at {
+        return LineWritten::NoRoom;
+    }
+    if out.len() - at < length {
+        return LineWritten::NoRoom;
+    }
+    let bytes = text.bytes;
+    text::copy(&bytes[..length], out, at);
+    LineWritten::Line { next, length }
+}
+
+// The line of a fault, after which nothing comes.
+fn put_stop(place: usize, refusal: u8, out: &mut [u8], at: usize) -> LineWritten
+    ensures { λ r. ⌜ PutsLine (lineOf (stopLine place refusal) Progress·Done) (now (out .entry)) at r (now (out .exit)) ⌝ }
+{
+    put_line(lines::stop_line(place, refusal), Progress::Done, out, at)
+}
+
+// The line of what stands at a place: an event, the trace's end or a fault.
+fn next_event(
+    trace: &[u8],
+    place: usize,
+    count: u64,
+    phy: Phy,
+    out: &mut [u8],
+    at: usize,
+) -> LineWritten
+    ensures { λ r. ⌜ PutsLine (afterReading place count phy (readEvent (now (trace .entry)) place)) (now (out .entry)) at r (now (out .exit)) ⌝ }
+{
+    match trace::read_event(trace, place) {
+        EventRead::Event { event, next } => {
+            let stepped = phy::step(phy, event);
+            let after = stepped.next;
+            let progress = Progress::Events {
+                place: next,
+                count: std::num::wrapping_add_u64(count, 1),
+                phy: after,
+            };
+            put_line(lines::event_line(place, event, stepped), progress, out, at)
+        }
+        EventRead::End => put_line(lines::end_line(place, count), Progress::Done, out, at),
+        EventRead::BadEvent => put_stop(place, table::BAD_EVENT, out, at),
+        EventRead::Cut => put_stop(place, table::CUT, out, at),
+        EventRead::Overlong => put_stop(place, table::OVERLONG, out, at),
+        EventRead::TooLarge => put_stop(place, table::TOO_LARGE, out, at),
+    }
+}
+
+// The next line of a trace's listing at a place of a buffer; any progress is taken.
+pub fn next_line(trace: &[u8], progress: Progress, out: &mut [u8], at: usize) -> LineWritten
+    ensures { λ r. ⌜ WritesLine (now (trace .entry)) progress (now (out .entry)) at r (now (out .exit)) ⌝ }
+{
+    match progress {
+        Progress::Header => {
+            let first = Progress::Events {
+                place: 0,
+                count: 0,
+                phy: phy::fresh(),
+            };
+            put_line(lines::header_line(), first, out, at)
+        }
+        Progress::Events { place, count, phy } => next_event(trace, place, count, phy, out, at),
+        Progress::TooLong => put_line(lines::too_long_line(), Progress::Done, out, at),
+        Progress::Done => LineWritten::Done,
+    }
+}

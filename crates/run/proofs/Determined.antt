@@ -1,0 +1,39 @@
+-- Each way to stop says one thing, so a contract that gives what is said gives the result.
+use mathlib.Core.List.{[], _∷_}
+use mathlib.Core.Path.{_≡_, refl, sym, ap, _∙_}
+use Rattle.table.specs.Choice.{_⇒_, rows}
+use Rattle.table.specs.Refusals.{badState, badEvent, cut, overlong}
+use Rattle.run.specs.Running.{Halt, atEnd, atBudget, atFault, refused, Told, tellsStop, tells}
+use Rattle.run.specs.Laws.{StopTellsOnce, RunDetermined}
+use Rattle.run.specs.declared.Ran.{Ran}
+use Rattle.run.specs.declared.Stop.{Stop}
+use Rattle.run.specs.declared.Stop.the-variants.{End, Budget, BadEvent, Cut, Overlong, TooLarge, BadState, NoRoom}
+
+-- what is said tells which way to stop said it
+stop : Halt → Stop
+stop atEnd = End
+stop atBudget = Budget
+stop (atFault n place) = rows n ((badEvent ⇒ BadEvent place) ∷ (cut ⇒ Cut place) ∷ (overlong ⇒ Overlong place) ∷ []) (TooLarge place)
+stop (refused n) = rows n ((badState ⇒ BadState) ∷ []) NoRoom
+
+stops : (r : Stop) → stop (tellsStop r) ≡ r
+unfolding stop
+stops End = refl
+stops Budget = refl
+stops (BadEvent place) = refl
+stops (Cut place) = refl
+stops (Overlong place) = refl
+stops (TooLarge place) = refl
+stops BadState = refl
+stops NoRoom = refl
+
+pub stop-tells-once : StopTellsOnce
+stop-tells-once r q e = sym (stops r) ∙ ap stop e ∙ stops q
+
+same-ran : (r q : Ran) → tells r ≡ tells q → r ≡ q
+same-ran r q e =
+    let s : r .stop ≡ q .stop = stop-tells-once (r .stop) (q .stop) (ap (λ (t : Told). t .halt) e) in
+    λ i. record { next = e i .state; count = e i .count; stop = s i }
+
+pub run-determined : RunDetermined
+run-determined p s budget before r q after later a b = (same-ran r q (a .says ∙ sym (b .says)), a .bytes ∙ sym (b .bytes))

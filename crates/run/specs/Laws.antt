@@ -1,0 +1,143 @@
+-- What is promised of a run beyond its contract. Each statement is proved in proofs/ under the name given beside it.
+use Prim.Native.Nat.{ℕ, _+_, _≤_, _<_}
+use mathlib.Core.Bool.{true, false}
+use mathlib.Core.List.{List, [], _∷_, _++_}
+use mathlib.Core.Logic.{_↔_}
+use mathlib.Core.Path.{_≡_}
+use lib.ListN.{length, take, drop}
+use Rattle.table.specs.Choice.{pick}
+use Rattle.table.specs.Refusals.{badState, badEvent, noRoom}
+use Rattle.event.specs.declared.Event.{Event}
+use Rattle.trace.specs.Reading as reading
+use Rattle.trace.specs.Reading.{readEvent}
+use Rattle.trace.specs.Laws.{ReadsAll}
+use Rattle.phy.specs.State.{freshPhy, validOf}
+use Rattle.phy.specs.Step.{stepOf}
+use Rattle.phy.specs.declared.Phy.{Phy}
+use Rattle.laws.specs.Waiting.{isAnswer}
+use Rattle.ledger.specs.Log.{Entry, log, accepted, answered, many}
+use Rattle.ledger.specs.Demand.{logOf, oneIfWaiting, Lawful}
+use Rattle.run.specs.Running.{Halt, atEnd, atBudget, atFault, refused, Course, taking, bytesOf, runOf, bufferAfter, tellsStop}
+use Rattle.run.specs.Contracts.{Runs}
+use Rattle.run.specs.declared.Ran.{Ran}
+use Rattle.run.specs.declared.Stop.{Stop}
+
+-- ---- each result says one thing (proofs/Determined)
+
+-- no two ways to stop say the same
+abbrev pub StopTellsOnce : Type 0
+StopTellsOnce = (r q : Stop) → tellsStop r ≡ tellsStop q → r ≡ q
+
+-- two results that `run` may give coincide, and so do the buffers that it may leave
+abbrev pub RunDetermined : Type 0
+RunDetermined =
+    (p : Phy) (s : List ℕ) (budget : ℕ) (before : List ℕ) (r q : Ran) (after later : List ℕ)
+    → Runs p s budget before r after → Runs p s budget before q later → (r ≡ q) × (after ≡ later)
+
+-- ---- each refusal exactly when (proofs/Refusals)
+
+-- 1: the phy is not valid
+abbrev pub BadStateExactly : Type 0
+BadStateExactly = (p : Phy) (s : List ℕ) (budget : ℕ) (buffer : List ℕ) → runOf p s budget buffer .halt ≡ refused badState ↔ (validOf p ≡ false)
+
+-- 10: the phy is valid, and the buffer is shorter than the budget
+abbrev pub NoRoomExactly : Type 0
+NoRoomExactly =
+    (p : Phy) (s : List ℕ) (budget : ℕ) (buffer : List ℕ)
+    → runOf p s budget buffer .halt ≡ refused noRoom ↔ ((validOf p ≡ true) × (length buffer < budget))
+
+-- refused, nothing is taken, the state is as given and the buffer as it was
+pub record Untouched (p : Phy) (s : List ℕ) (budget : ℕ) (buffer : List ℕ) : Type 0 where
+  pub none-taken : runOf p s budget buffer .count ≡ 0
+  pub same-state : runOf p s budget buffer .state ≡ p
+  pub same-bytes : bufferAfter p s budget buffer ≡ buffer
+
+abbrev pub RefusedKeeps : Type 0
+RefusedKeeps = (p : Phy) (s : List ℕ) (budget : ℕ) (buffer : List ℕ) (n : ℕ) → runOf p s budget buffer .halt ≡ refused n → Untouched p s budget buffer
+
+-- ---- which events are taken, and how taking them stops (proofs/Stopping)
+
+-- reading these events one after the other from a place on comes to the place `last`
+pub data Passes (s : List ℕ) : ℕ → List Event → ℕ → Type 0 where
+  here : {place : ℕ} → Passes s place [] place
+  on : {place : ℕ} {e : Event} {next : ℕ} {es : List Event} {last : ℕ} → readEvent s place ≡ reading.event e next → Passes s next es last → Passes s place (e ∷ es) last
+
+-- why a course stops at the place `last` once `count` events are taken: the trace has ended; else the budget is spent; else there is a fault
+pub data Why (s : List ℕ) (budget count last : ℕ) : Halt → Type 0 where
+  ended : length s ≤ last → Why s budget count last atEnd
+  spent : last < length s → count ≡ budget → Why s budget count last atBudget
+  faulty : {n : ℕ} → last < length s → count < budget → readEvent s last ≡ reading.refused n last → Why s budget count last (atFault n last)
+
+pub record StopsWell (s : List ℕ) (budget place : ℕ) (c : Course) : Type 0 where
+  pub last : ℕ
+  pub passes : Passes s place (c .events) last
+  pub few : length (c .events) ≤ budget
+  pub why : Why s budget (length (c .events)) last (c .halt)
+
+abbrev pub StopsWellAlways : Type 0
+StopsWellAlways = (s : List ℕ) (budget : ℕ) → StopsWell s budget 0 (taking budget s 0)
+
+-- a trace without fault is taken whole, if the budget lets it
+abbrev pub TakesAll : Type 0
+TakesAll = (s : List ℕ) (budget : ℕ) (es : List Event) → ReadsAll s 0 es → length es ≤ budget → taking budget s 0 ≡ record { events = es; halt = atEnd }
+
+-- ---- the buffer (proofs/Written)
+
+-- only the bytes of the events taken differ from the buffer lent, and they are no more than the budget
+pub record OnlyTaken (p : Phy) (s : List ℕ) (budget : ℕ) (buffer : List ℕ) : Type 0 where
+  pub few : runOf p s budget buffer .count ≤ budget
+  pub long : length (bufferAfter p s budget buffer) ≡ length buffer
+  pub kept : drop (runOf p s budget buffer .count) (bufferAfter p s budget buffer) ≡ drop (runOf p s budget buffer .count) buffer
+
+abbrev pub WritesOnlyTaken : Type 0
+WritesOnlyTaken = (p : Phy) (s : List ℕ) (budget : ℕ) (buffer : List ℕ) → OnlyTaken p s budget buffer
+
+-- not refused, the first bytes are those of the events taken
+abbrev pub WritesTaken : Type 0
+WritesTaken =
+    (p : Phy) (s : List ℕ) (budget : ℕ) (buffer : List ℕ) → validOf p ≡ true → budget ≤ length buffer
+    → take (runOf p s budget buffer .count) (bufferAfter p s budget buffer) ≡ bytesOf p (taking budget s 0 .events)
+
+-- a longer buffer changes nothing but its own later bytes, which are kept
+pub record SameLonger (p : Phy) (s : List ℕ) (budget : ℕ) (buffer more : List ℕ) : Type 0 where
+  pub says : runOf p s budget (buffer ++ more) ≡ runOf p s budget buffer
+  pub bytes : bufferAfter p s budget (buffer ++ more) ≡ bufferAfter p s budget buffer ++ more
+
+abbrev pub LongerBuffer : Type 0
+LongerBuffer = (p : Phy) (s : List ℕ) (budget : ℕ) (buffer more : List ℕ) → budget ≤ length buffer → SameLonger p s budget buffer more
+
+-- each byte of a list is neither 1 nor 2
+abbrev pub NeitherOneNorTwo : List ℕ → Type 0
+NeitherOneNorTwo [] = Unit
+NeitherOneNorTwo (b ∷ bs) = ((b ≡ badState → ⊥) × (b ≡ badEvent → ⊥)) × NeitherOneNorTwo bs
+
+-- no byte written is 1 or 2: the phy stays valid, and an event read is known
+abbrev pub NoOneNorTwo : Type 0
+NoOneNorTwo = (p : Phy) (s : List ℕ) (budget : ℕ) → validOf p ≡ true → NeitherOneNorTwo (bytesOf p (taking budget s 0 .events))
+
+-- ---- the answers among the bytes (proofs/Answers)
+
+-- the bytes that are answers, in order
+abbrev pub answersIn : List ℕ → List ℕ
+answersIn [] = []
+answersIn (b ∷ bs) = pick (isAnswer b) (b ∷ answersIn bs) (answersIn bs)
+
+-- the answers of a log, in order
+abbrev pub answersOf : List Entry → List ℕ
+answersOf [] = []
+answersOf (x ∷ xs) = pick (answered x) (x .result .answer ∷ answersOf xs) (answersOf xs)
+
+-- the bytes that are answers are the answers of the log of the same events
+abbrev pub AnswersInOrder : Type 0
+AnswersInOrder = (p : Phy) (es : List Event) → answersIn (bytesOf p es) ≡ answersOf (log stepOf p es)
+
+-- demand 3 holds of what a run of a fresh phy writes: accepted Opens equal the answers among the bytes plus the one, if any, still waiting
+pub record LawfulRun (s : List ℕ) (budget : ℕ) (buffer : List ℕ) : Type 0 where
+  pub lawful : Lawful (taking budget s 0 .events)
+  pub answers : answersIn (take (runOf freshPhy s budget buffer .count) (bufferAfter freshPhy s budget buffer)) ≡ answersOf (logOf (taking budget s 0 .events))
+  pub balance :
+      many accepted (logOf (taking budget s 0 .events))
+      ≡ length (answersIn (take (runOf freshPhy s budget buffer .count) (bufferAfter freshPhy s budget buffer))) + oneIfWaiting (runOf freshPhy s budget buffer .state)
+
+abbrev pub RunsLawful : Type 0
+RunsLawful = (s : List ℕ) (budget : ℕ) (buffer : List ℕ) → budget ≤ length buffer → LawfulRun s budget buffer
