@@ -1,11 +1,11 @@
 // Cases of the crate `identify`: a walk of steps, each from the identification that the one before
 // gave.
-use crate::text::Place;
-use crate::text::put_line;
-use crate::text::take;
-use crate::text::take_many;
+use casefile::Place;
+use casefile::take;
+use casefile::take_many;
 use identify::Identification;
 use identify::Stepped;
+use output::put_line;
 
 // The numbers of an identification, in the case file and in a line.
 const FIELDS: usize = 7;

@@ -2,11 +2,15 @@
 // input as numbers in the trace's own form, each case after the number of its kind; the expected
 // output is made by the reference alone.
 mod idents;
-mod input;
 mod numbers;
 mod phys;
 mod syncs;
-mod text;
+
+use casefile::Ahead;
+use casefile::Place;
+use casefile::slide;
+use casefile::take;
+use output::write_out;
 
 // More cases than any case file has: the run ends with the file.
 const MOST_CASES: u64 = 4294967296;
@@ -23,8 +27,8 @@ const PHY_WALK: u64 = 5;
 
 // The case at the start of what is ahead. An unknown kind ends the run: nothing after it could be
 // told apart.
-fn one_case(s: &[u8], out: &mut [u8], n: usize) -> text::Place {
-    let kind = text::take(s, 0);
+fn one_case(s: &[u8], out: &mut [u8], n: usize) -> Place {
+    let kind = take(s, 0);
     let place = kind.next;
     let code = kind.value;
     match code {
@@ -33,14 +37,14 @@ fn one_case(s: &[u8], out: &mut [u8], n: usize) -> text::Place {
         DWS_WALK => syncs::walk_case(s, code, place, out, n),
         IDENTIFY_WALK => idents::walk_case(s, code, place, out, n),
         PHY_WALK => phys::walk_case(s, code, place, out, n),
-        _ => text::Place { next: s.len(), n },
+        _ => Place { next: s.len(), n },
     }
 }
 
 // Every case of the file; what it answers is how much output is still to be written.
 fn all_cases(window: &mut [u8], out: &mut [u8]) -> usize {
     let first = io::read_full(0, window);
-    let mut ahead = input::Ahead {
+    let mut ahead = Ahead {
         from: 0,
         to: first,
         ended: false,
@@ -49,7 +53,7 @@ fn all_cases(window: &mut [u8], out: &mut [u8]) -> usize {
     let mut turns = 0;
     while turns < MOST_CASES {
         turns += 1;
-        ahead = input::slide(window, ahead);
+        ahead = slide(window, ahead);
         let from = ahead.from;
         let to = ahead.to;
         if to <= from {
@@ -70,5 +74,5 @@ fn main() {
     let mut window = io::large_buffer();
     let mut out = io::large_buffer();
     let n = all_cases(&mut window, &mut out);
-    text::write_out(&out, n);
+    write_out(&out, n, 0);
 }

@@ -1,12 +1,12 @@
 // Cases of the crate `number`: reading at a place of a byte string, writing into a buffer.
-use crate::text::Place;
-use crate::text::end_line;
-use crate::text::fill;
-use crate::text::put_bytes;
-use crate::text::put_line;
-use crate::text::put_numbers;
-use crate::text::take;
-use crate::text::take_bytes;
+use casefile::Place;
+use casefile::take;
+use casefile::take_bytes;
+use output::end_line;
+use output::put_all;
+use output::put_bytes;
+use output::put_line;
+use output::put_numbers;
 
 // The buffers of the cases are no longer than this.
 const MOST_BUFFER: usize = 64;
@@ -95,7 +95,7 @@ pub fn write_case(s: &[u8], kind: u64, place: usize, out: &mut [u8], n: usize) -
     let from = part.from;
     let to = part.to;
     let mut room = [0u8; MOST_BUFFER];
-    let count = fill(&s[from..to], &mut room);
+    let count = put_all(&mut room, 0, &s[from..to]);
     let end = write_line(
         &mut room[0..count],
         value.value,

@@ -1,7 +1,7 @@
 // Cases of the crate `dws`: a walk of steps, each from the state that the one before gave.
-use crate::text::Place;
-use crate::text::put_line;
-use crate::text::take;
+use casefile::Place;
+use casefile::take;
+use output::put_line;
 
 // state, count, events: for each event the refusal, the state and the report
 pub fn walk_case(s: &[u8], kind: u64, place: usize, out: &mut [u8], n: usize) -> Place {

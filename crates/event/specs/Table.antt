@@ -51,8 +51,11 @@ abbrev pub within : Range → ℕ → Bool
 within r v = leb (r .least) v && leb v (r .most)
 
 -- codes 1 to 15
+abbrev pub codes : Range
+codes = txOpen to phyDisabled
+
 abbrev pub codeKnown : ℕ → Bool
-codeKnown code = leb txOpen code && leb code phyDisabled
+codeKnown code = within codes code
 
 -- the six arguments of an event of a code are in their ranges
 unfoldable pub argumentsKnown : (code a b c d e f : ℕ) → Bool

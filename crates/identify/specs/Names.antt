@@ -67,11 +67,11 @@ failed = 1
 abbrev pub complete : ℕ
 complete = 2
 
--- no frame came in time
+-- no identify frame was got in time
 abbrev pub timedOut : ℕ
 timedOut = 3
 
--- a HARD_RESET came instead of a frame
+-- a HARD_RESET came before an identify frame was got
 abbrev pub resetReceived : ℕ
 resetReceived = 4
 

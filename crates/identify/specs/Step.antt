@@ -16,7 +16,7 @@ use Rattle.identify.specs.declared.Stepped.{Stepped}
 abbrev pub fresh : Identification
 fresh = record { receiver = idle; count = 0; timer = 0; outcome = none; typed = false; got = false; sent = false }
 
--- the receiver goes to a state, with n dwords counted and the type known or not
+-- the receiver goes to a state, with n dwords counted and the type Identify or not
 abbrev pub goes : Identification → (receiver n : ℕ) → Bool → Identification
 goes i receiver n typed =
     record {

@@ -59,6 +59,8 @@ const MOST_DWORD: u64 = 4294967295;
 // Ticks that the other side's frame is waited for.
 const MOST_TICKS: u64 = 1000;
 
+// What has come so far: the receiver with the data dwords counted in a frame and whether its type is
+// Identify, the identify frame got, the own frame sent, the timer and the outcome.
 pub struct Identification {
     pub receiver: u64,
     pub count: u64,
@@ -129,7 +131,7 @@ pub fn valid(i: Identification) -> bool
         & reset_right
 }
 
-// The receiver goes to a state, with dwords counted and the type known or not.
+// The receiver goes to a state, with dwords counted and the type Identify or not.
 fn goes(i: Identification, receiver: u64, count: u64, typed: bool) -> Identification
     ensures { λ r. ⌜ r ≡ goes i receiver count typed ⌝ }
 {

@@ -14,7 +14,8 @@ use Rattle.phy.specs.State.{noOpen, validOf}
 use Rattle.phy.specs.Step.{moveOf}
 use Rattle.phy.specs.declared.Phy.{Phy}
 use Rattle.phy.specs.declared.Stepped.{Stepped}
-use Rattle.laws.specs.Waiting.{waits, isAnswer, heard}
+use Rattle.laws.specs.Waiting.{waits, isAnswer}
+use Rattle.laws.proofs.Counting.{heard}
 use Rattle.laws.specs.Laws.{AnswersComeFromWaiting, ArgumentsExactly}
 use Rattle.laws.proofs.Shapes.{by-shape}
 use Rattle.laws.proofs.OneStep.{Nothing, Taken, Kept, Answered, Tally, Stepping, longer-known}

@@ -15,7 +15,8 @@ use Rattle.phy.specs.Moves.{toIdle, openByLink, onTxOpen, onCancelOpen, onClose
 use Rattle.phy.specs.Step.{moveOf}
 use Rattle.phy.specs.declared.Settings.{Settings}
 use Rattle.phy.specs.declared.Phy.{Phy}
-use Rattle.laws.specs.Waiting.{waits, isAnswer, heard, left}
+use Rattle.laws.specs.Waiting.{waits, isAnswer}
+use Rattle.laws.proofs.Counting.{heard, left}
 use Rattle.laws.proofs.Tests.{either, at-number, in-range, in-use}
 use Rattle.laws.proofs.Shapes.{Fields, phyOf, Facts, by-shape}
 use Rattle.laws.proofs.OneStep.{setsFlag, Stepping, valid-of, still, open-known, protocol-known, longer-known, timed, at-least-one, timed-down}

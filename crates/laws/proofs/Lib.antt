@@ -1,3 +1,4 @@
+pub mod Counting
 pub mod Tests
 pub mod Shapes
 pub mod OneStep

@@ -16,7 +16,8 @@ use Rattle.phy.specs.State.{noOpen, validPair, validOf}
 use Rattle.phy.specs.Moves.{refused, longer}
 use Rattle.phy.specs.declared.Phy.{Phy}
 use Rattle.phy.specs.declared.Stepped.{Stepped}
-use Rattle.laws.specs.Waiting.{waits, accepts, isAnswer, heard, ticksOf, aipsOf, left}
+use Rattle.laws.specs.Waiting.{waits, isAnswer}
+use Rattle.laws.proofs.Counting.{accepts, heard, ticksOf, aipsOf, left}
 use Rattle.laws.proofs.Shapes.{Fields, phyOf, Facts}
 
 -- ---- what a step does to a waiting request

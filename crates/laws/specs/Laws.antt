@@ -20,12 +20,15 @@ use Rattle.laws.specs.Waiting.{waits, isAnswer}
 
 -- ---- validity (proofs/Steps)
 
+-- a fresh phy is valid
 abbrev pub FreshValid : Type 0
 FreshValid = validOf freshPhy ≡ true
 
 -- a valid phy stays valid, whatever the event
 abbrev pub StaysValid : Type 0
 StaysValid = (p : Phy) (e : Event) → validOf p ≡ true → validOf (stepOf p e .next) ≡ true
+
+-- ---- refused, nothing changes (proofs/Refusals)
 
 -- a refused step gives the phy back, every report zero
 abbrev pub RefusedKeeps : Type 0

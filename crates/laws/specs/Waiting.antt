@@ -1,24 +1,12 @@
--- Words about one step of a phy: whether a request waits, what an answer carries, how long it may yet take.
-use Prim.Native.Nat.{ℕ, _+_}
-use mathlib.Core.Bool.{Bool, _&&_, _||_}
-use mathlib.Core.List.{[], _∷_}
+-- Words about one step of a phy: whether a request waits, and what an answer is.
+use Prim.Native.Nat.{ℕ}
+use mathlib.Core.Bool.{Bool, _||_}
 use lib.Dec.{eqb}
-use Rattle.table.specs.Choice.{pick, _⇒_, rows}
-use Rattle.event.specs.Names.{txOpen, aipReceived, tick}
-use Rattle.event.specs.declared.Event.{Event}
-use Rattle.event.specs.declared.Open.{Open}
-use Rattle.phy.specs.Names.{L1, L5, P2, P4, fullTimer, opened, retry, noDestination, pathwayBlocked, collided, openedByDestination, openedByOther, badDestination, rateNotSupported, protocolNotSupported, stpBusy, wrongDestination, openTimeout, openBroken, portLayerRequest, terminated}
-use Rattle.phy.specs.Moves.{longer}
-use Rattle.phy.specs.declared.Phy.{Phy}
-use Rattle.phy.specs.declared.Stepped.{Stepped}
+use Rattle.phy.specs.Names.{P2, P4, opened, retry, noDestination, pathwayBlocked, collided, openedByDestination, openedByOther, badDestination, rateNotSupported, protocolNotSupported, stpBusy, wrongDestination, openTimeout, openBroken, portLayerRequest, terminated}
 
 -- a request waits in P2 and P4
 abbrev pub waits : (port : ℕ) → Bool
 waits port = eqb port P2 || eqb port P4
-
--- a Tx Open is accepted: it is not refused
-abbrev pub accepts : Event → Stepped → Bool
-accepts e r = eqb (e .code) txOpen && eqb (r .refusal) 0
 
 -- the sixteen answers
 abbrev pub isAnswer : ℕ → Bool
@@ -26,18 +14,3 @@ isAnswer n =
     eqb n opened || eqb n retry || eqb n noDestination || eqb n pathwayBlocked || eqb n collided || eqb n openedByDestination || eqb n openedByOther
     || eqb n badDestination || eqb n rateNotSupported || eqb n protocolNotSupported || eqb n stpBusy || eqb n wrongDestination || eqb n openTimeout
     || eqb n openBroken || eqb n portLayerRequest || eqb n terminated
-
--- the request once an event has come: a tick in P2 lets it wait longer
-unfoldable pub heard : Phy → Event → Open
-heard p e = pick (eqb (e .code) tick && eqb (p .port) P2) (longer (p .request)) (p .request)
-
--- an event's own tick, and its own AIP
-abbrev pub ticksOf : Event → ℕ
-ticksOf e = pick (eqb (e .code) tick) 1 0
-
-abbrev pub aipsOf : Event → ℕ
-aipsOf e = pick (eqb (e .code) aipReceived) 1 0
-
--- how many ticks a waiting request may yet take, if no AIP comes
-unfoldable pub left : Phy → ℕ
-left p = rows (p .link) ((L1 ⇒ p .timer + fullTimer) ∷ (L5 ⇒ p .timer) ∷ []) 1

@@ -19,7 +19,8 @@ use Rattle.phy.specs.Moves.{longer, refused}
 use Rattle.phy.specs.Step.{moveOf, stepOf}
 use Rattle.phy.specs.declared.Phy.{Phy}
 use Rattle.phy.specs.declared.Stepped.{Stepped}
-use Rattle.laws.specs.Waiting.{waits, accepts, isAnswer, heard, ticksOf, aipsOf, left}
+use Rattle.laws.specs.Waiting.{waits, isAnswer}
+use Rattle.laws.proofs.Counting.{accepts, heard, ticksOf, aipsOf, left}
 use Rattle.laws.specs.Laws.{Judged}
 use Rattle.laws.proofs.Refusals.{moves, taken-exactly}
 use Rattle.laws.proofs.Shapes.{by-shape}

@@ -71,9 +71,13 @@ AnsweredBy =
 abbrev pub plain : (code : ℕ) → Event
 plain code = record { code = code; first = 0; second = 0; third = 0; fourth = 0; fifth = 0; sixth = 0 }
 
+-- a Tx Open to a destination, its wait 0
+abbrev pub openTo : ℕ → Event
+openTo destination = record { code = txOpen; first = destination; second = SSP; third = slowRate; fourth = 0; fifth = 0; sixth = 0 }
+
 -- an Open to destination 5
 abbrev pub openToFive : Event
-openToFive = record { code = txOpen; first = 5; second = SSP; third = slowRate; fourth = 0; fifth = 0; sixth = 0 }
+openToFive = openTo 5
 
 -- an AIP k times, each after n ticks
 abbrev pub rounds : (n k : ℕ) → List Event

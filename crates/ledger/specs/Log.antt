@@ -34,7 +34,7 @@ abbrev pub after : Step → Phy → List Event → Phy
 after step p [] = p
 after step p (e ∷ es) = after step (step p e .next) es
 
--- an event that was not refused and has a code
+-- an event that was not refused and has this code
 abbrev pub taken : (code : ℕ) → Entry → Bool
 taken code x = eqb (x .event .code) code && eqb (x .result .refusal) 0
 

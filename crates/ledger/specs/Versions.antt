@@ -1,4 +1,4 @@
--- Versions two and three as steps that differ from ours in one row, and how the books show their faults.
+-- Versions two and three as moves that differ from ours in one row, and how the books show their faults.
 use Prim.Native.Nat.{ℕ, _≤_}
 use mathlib.Core.Bool.{true, _&&_}
 use mathlib.Core.List.{List, _∷_}
@@ -41,7 +41,7 @@ stepThree p e =
 abbrev pub openAndTicks : ℕ → List Event
 openAndTicks n = openToFive ∷ replicate n (plain tick)
 
--- it is answered once by 1,999 ticks, so that none waits, and the next tick answers again
+-- after 1,999 ticks none waits any more, and the next tick answers again and breaks the books
 pub record AnsweredAgain : Type 0 where
   pub none-waits : books free (log stepThree freshPhy (openAndTicks 1999)) ≡ free
   pub again : answered (entry stepThree (after stepThree freshPhy (openAndTicks 1999)) (plain tick)) ≡ true

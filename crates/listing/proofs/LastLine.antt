@@ -1,12 +1,11 @@
 -- The last line of a listing: each event read is counted once, and the trace ends at its length.
 use Prim.Native.Nat.{ℕ, suc, _+_, _≤_}
 use mathlib.Core.List.{List, [], _++_, append-assoc}
-use mathlib.Core.Path.{_≡_, refl, sym, ap, ap₂, subst, _∙_}
+use mathlib.Core.Path.{_≡_, sym, ap, ap₂, subst, _∙_}
 use native.Mathlib.Nat.{zero-add}
 use native.Mathlib.Omega.{arith}
 use lib.ListN.{length}
 use Rattle.event.specs.declared.Event.{Event}
-use Rattle.trace.specs.Reading.{event, end, refused, readEvent}
 use Rattle.trace.specs.Laws.{ReadsAll}
 use Rattle.trace.specs.Laws as trace
 use Rattle.trace.proofs.Accepted.{read-moves-on}

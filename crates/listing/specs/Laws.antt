@@ -1,4 +1,4 @@
--- What is promised of a listing beyond the contracts. Each statement is proved in proofs/ under the name given beside it.
+-- What is promised of a listing beyond the contracts. Each statement is proved under its own name, in the file of proofs/ that stands beside its heading.
 use Prim.Native.Nat.{ℕ, suc, _+_, _-_, _≤_, _<_}
 use mathlib.Core.List.{List, [], _++_}
 use mathlib.Core.Logic.{_↔_}
@@ -9,8 +9,8 @@ use Rattle.event.specs.declared.Event.{Event}
 use Rattle.trace.specs.Laws.{ReadsAll}
 use Rattle.listing.specs.Text.{mostLine}
 use Rattle.listing.specs.Lines.{endLine}
-use Rattle.listing.specs.Listing.{mostTrace, Lists, lineOf, none, startOf, lineAt}
-use Rattle.listing.specs.Contracts.{StartsListing, WritesLine, wrote, refused, tellsWritten}
+use Rattle.listing.specs.Listing.{mostTrace, Lists, Next, lineOf, none, startOf, lineAt}
+use Rattle.listing.specs.Contracts.{StartsListing, WritesLine, wrote, refused, bytesOf, writeNext, bufferAfter, tellsWritten}
 use Rattle.listing.specs.declared.Progress.{Progress}
 use Rattle.listing.specs.declared.Progress.the-variants.{Header, Events, TooLong, Done}
 use Rattle.listing.specs.declared.LineWritten.{LineWritten}
@@ -30,6 +30,17 @@ abbrev pub LineDetermined : Type 0
 LineDetermined =
     (s : List ℕ) (progress : Progress) (before : List ℕ) (at : ℕ) (r q : LineWritten) (after later : List ℕ)
     → WritesLine s progress before at r after → WritesLine s progress before at q later → (r ≡ q) × (after ≡ later)
+
+-- ---- a refusal exactly when (proofs/Refusals)
+
+-- 10: a line comes, and does not fit between the place and the buffer's end
+abbrev pub NoRoomExactly : Type 0
+NoRoomExactly =
+    (n : Next) (buffer : List ℕ) (at : ℕ) → writeNext n buffer at ≡ refused noRoom ↔ ((n ≡ none → ⊥) × (length buffer < at + length (bytesOf n)))
+
+-- and then the buffer is as it was
+abbrev pub NoRoomKeeps : Type 0
+NoRoomKeeps = (n : Next) (buffer : List ℕ) (at : ℕ) → writeNext n buffer at ≡ refused noRoom → bufferAfter n buffer at ≡ buffer
 
 -- ---- line by line (proofs/Ends)
 

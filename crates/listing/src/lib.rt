@@ -80,7 +80,7 @@ fn next_event(
 ) -> LineWritten
     ensures { λ r. ⌜ PutsLine (afterReading place count phy (readEvent (now (trace .entry)) place)) (now (out .entry)) at r (now (out .exit)) ⌝ }
 {
-    match trace::read_event(trace, place) {
+    match trace::event_at(trace, place) {
         EventRead::Event { event, next } => {
             let stepped = phy::step(phy, event);
             let after = stepped.next;
@@ -92,10 +92,10 @@ fn next_event(
             put_line(lines::event_line(place, event, stepped), progress, out, at)
         }
         EventRead::End => put_line(lines::end_line(place, count), Progress::Done, out, at),
-        EventRead::BadEvent => put_stop(place, table::BAD_EVENT, out, at),
-        EventRead::Cut => put_stop(place, table::CUT, out, at),
-        EventRead::Overlong => put_stop(place, table::OVERLONG, out, at),
-        EventRead::TooLarge => put_stop(place, table::TOO_LARGE, out, at),
+        EventRead::BadEvent(first) => put_stop(first, table::BAD_EVENT, out, at),
+        EventRead::Cut(first) => put_stop(first, table::CUT, out, at),
+        EventRead::Overlong(first) => put_stop(first, table::OVERLONG, out, at),
+        EventRead::TooLarge(first) => put_stop(first, table::TOO_LARGE, out, at),
     }
 }
 

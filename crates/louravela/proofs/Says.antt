@@ -13,8 +13,8 @@ use Rattle.trace.specs.declared.EventWritten.{EventWritten}
 use Rattle.louravela.specs.Contracts.{WritesEventRecord}
 use Rattle.louravela.specs.Events.{fromTold, fromWritten}
 
-pub read-says : (place : ℕ) {r k : EventRead} {told : Told} → r ≡ k → tells place r ≡ told → fromTold place (tells place k) ≡ fromTold place told
-read-says place e h = ap (fromTold place) (sym (ap (tells place) e) ∙ h)
+pub read-says : (place : ℕ) {r k : EventRead} {told : Told} → r ≡ k → tells r ≡ told → fromTold place (tells k) ≡ fromTold place told
+read-says place e h = ap (fromTold place) (sym (ap tells e) ∙ h)
 
 pub write-says :
     {given : EventRecord} {e : Event} {before after : List ℕ} {place : ℕ} {r k : EventWritten}

@@ -194,7 +194,7 @@ fn no_event(place: usize, how: u64, refusal: u8) -> EventReadRecord
 pub extern "C" fn louravela_event_read(trace: &[u8], place: usize) -> EventReadRecord
     ensures { λ r. ⌜ ReadsEventRecord (now (trace .entry)) place r ⌝ }
 {
-    match trace::read_event(trace, place) {
+    match trace::event_at(trace, place) {
         EventRead::Event { event, next } => EventReadRecord {
             event: records::from_event(event),
             next,
@@ -202,10 +202,10 @@ pub extern "C" fn louravela_event_read(trace: &[u8], place: usize) -> EventReadR
             refusal: 0,
         },
         EventRead::End => no_event(place, END, 0),
-        EventRead::BadEvent => no_event(place, FAULT, table::BAD_EVENT),
-        EventRead::Cut => no_event(place, FAULT, table::CUT),
-        EventRead::Overlong => no_event(place, FAULT, table::OVERLONG),
-        EventRead::TooLarge => no_event(place, FAULT, table::TOO_LARGE),
+        EventRead::BadEvent(_) => no_event(place, FAULT, table::BAD_EVENT),
+        EventRead::Cut(_) => no_event(place, FAULT, table::CUT),
+        EventRead::Overlong(_) => no_event(place, FAULT, table::OVERLONG),
+        EventRead::TooLarge(_) => no_event(place, FAULT, table::TOO_LARGE),
     }
 }
 

@@ -1,4 +1,4 @@
--- The marked cases hold by computation, one by one: together they are more than one declaration may compute.
+-- The marked cases hold by computation; the three long ones each in a declaration of its own, since together they are more than one may compute.
 use mathlib.Core.List.{[], _∷_}
 use mathlib.Core.Path.{_≡_, refl}
 use Rattle.number.specs.Reading.{lastGroup, tenthByte, groups, readNumber}
@@ -9,59 +9,39 @@ use Rattle.event.specs.Table.{argumentRange, argumentsKnown, knownOf, openKnown
 use Rattle.phy.specs.State.{validRequest, validInbound, validOf}
 use Rattle.phy.specs.Moves.{toIdle, openByLink, onTxOpen, onCancelOpen, onAccept, onOpenReceived, onAip, onBreak, longer, aged, tickRequesting, tickBreaking, openedBy, accepted, tickSelected, onTickAged, onTick}
 use Rattle.phy.specs.Step.{moveOf, stepOf}
-use Rattle.phy.specs.Names.{openTimeout}
-use Rattle.marked.specs.Marked.{afterTicks, afterAip, Case, M1, M2, M6, M7, M8, M9, M10, M11, M12, AllMarked}
+use Rattle.marked.specs.Marked.{answersTo, answersTimed, refusalsTo, Case, M1, M2, M3, M4, M5, M6, M7, M8, M9, M10, M11, M12, AllMarked}
 
 abbrev Right : Case → Type 0
 Right c = c .given ≡ c .said
 
-m1 : Right M1
+-- dword synchronization
+synchronized : Right M1 × Right M2
 unfolding afterInvalid afterValid afterPrimitive nextState reportOf dws.stepOf
-m1 = refl
+synchronized = (refl, refl)
 
-m2 : Right M2
-unfolding afterInvalid afterValid afterPrimitive nextState reportOf dws.stepOf
-m2 = refl
+-- thousands of ticks
+unanswered : Right M3
+unfolding answersTo argumentRange argumentsKnown knownOf openKnown validRequest validInbound validOf toIdle openByLink onTxOpen onAip longer aged tickRequesting tickBreaking onTickAged onTick moveOf stepOf
+unanswered = refl
 
-m3 : afterTicks 1999 ≡ []
-unfolding afterTicks argumentRange argumentsKnown knownOf openKnown validRequest validInbound validOf toIdle openByLink onTxOpen onAip longer aged tickRequesting tickBreaking onTickAged onTick moveOf stepOf
-m3 = refl
+timed-out : Right M4
+unfolding answersTo argumentRange argumentsKnown knownOf openKnown validRequest validInbound validOf toIdle openByLink onTxOpen onAip longer aged tickRequesting tickBreaking onTickAged onTick moveOf stepOf
+timed-out = refl
 
-m4 : afterTicks 2000 ≡ openTimeout ∷ 1000 ∷ []
-unfolding afterTicks argumentRange argumentsKnown knownOf openKnown validRequest validInbound validOf toIdle openByLink onTxOpen onAip longer aged tickRequesting tickBreaking onTickAged onTick moveOf stepOf
-m4 = refl
+put-off : Right M5
+unfolding answersTimed argumentRange argumentsKnown knownOf openKnown validRequest validInbound validOf toIdle openByLink onTxOpen onAip longer aged tickRequesting tickBreaking onTickAged onTick moveOf stepOf
+put-off = refl
 
-m5 : afterAip 999 2000 ≡ openTimeout ∷ 2999 ∷ []
-unfolding afterAip argumentRange argumentsKnown knownOf openKnown validRequest validInbound validOf toIdle openByLink onTxOpen onAip longer aged tickRequesting tickBreaking onTickAged onTick moveOf stepOf
-m5 = refl
+-- a few events
+answered : Right M6 × Right M7 × Right M8 × Right M9 × Right M10
+unfolding answersTo refusalsTo argumentRange argumentsKnown knownOf openKnown validRequest validInbound validOf toIdle openByLink onTxOpen onCancelOpen onAccept onOpenReceived onAip onBreak longer aged tickRequesting tickBreaking openedBy accepted tickSelected onTickAged onTick moveOf stepOf
+answered = (refl, refl, refl, refl, refl)
 
-m6 : Right M6
-unfolding argumentRange argumentsKnown knownOf openKnown validRequest validInbound validOf toIdle openByLink onTxOpen onCancelOpen onAccept onOpenReceived onAip onBreak longer aged tickRequesting tickBreaking openedBy accepted tickSelected onTickAged onTick moveOf stepOf
-m6 = refl
-
-m7 : Right M7
-unfolding argumentRange argumentsKnown knownOf openKnown validRequest validInbound validOf toIdle openByLink onTxOpen onCancelOpen onAccept onOpenReceived onAip onBreak longer aged tickRequesting tickBreaking openedBy accepted tickSelected onTickAged onTick moveOf stepOf
-m7 = refl
-
-m8 : Right M8
-unfolding argumentRange argumentsKnown knownOf openKnown validRequest validInbound validOf toIdle openByLink onTxOpen onCancelOpen onAccept onOpenReceived onAip onBreak longer aged tickRequesting tickBreaking openedBy accepted tickSelected onTickAged onTick moveOf stepOf
-m8 = refl
-
-m9 : Right M9
-unfolding argumentRange argumentsKnown knownOf openKnown validRequest validInbound validOf toIdle openByLink onTxOpen onCancelOpen onAccept onOpenReceived onAip onBreak longer aged tickRequesting tickBreaking openedBy accepted tickSelected onTickAged onTick moveOf stepOf
-m9 = refl
-
-m10 : Right M10
-unfolding argumentRange argumentsKnown knownOf openKnown validRequest validInbound validOf toIdle openByLink onTxOpen onCancelOpen onAccept onOpenReceived onAip onBreak longer aged tickRequesting tickBreaking openedBy accepted tickSelected onTickAged onTick moveOf stepOf
-m10 = refl
-
-m11 : Right M11
+-- numbers
+numbered : Right M11 × Right M12
 unfolding lastGroup tenthByte groups readNumber bytesOf numberBytes
-m11 = refl
-
-m12 : Right M12
-unfolding lastGroup tenthByte groups readNumber bytesOf numberBytes
-m12 = refl
+numbered = (refl, refl)
 
 pub all-marked : AllMarked
-all-marked = λ i. m1 i ∷ m2 i ∷ m3 i ∷ m4 i ∷ m5 i ∷ m6 i ∷ m7 i ∷ m8 i ∷ m9 i ∷ m10 i ∷ m11 i ∷ m12 i ∷ []
+all-marked =
+    λ i. synchronized .0 i ∷ synchronized .1 i ∷ unanswered i ∷ timed-out i ∷ put-off i ∷ answered .0 i ∷ answered .1 i ∷ answered .2 i ∷ answered .3 i ∷ answered .4 i ∷ numbered .0 i ∷ numbered .1 i ∷ []

@@ -9,11 +9,11 @@ use Rattle.number.specs.Reading.{Told, value, refused, readNumber}
 use Rattle.number.specs.Writing.{numberBytes}
 use Rattle.dws.specs.Names.{syncAcquired, acquireSync, invalid, dataDword, primitive}
 use Rattle.dws.specs.Laws.{run}
-use Rattle.event.specs.Names.{SSP, slowRate, txOpen, cancelOpen, acceptOpens, openReceived, aipReceived, breakReceived, tick}
+use Rattle.event.specs.Names.{SSP, cancelOpen, acceptOpens, openReceived, aipReceived, breakReceived, tick}
 use Rattle.event.specs.declared.Event.{Event}
 use Rattle.phy.specs.Names.{collided, openedByDestination, openedByOther, openTimeout, portLayerRequest}
 use Rattle.ledger.specs.Log.{Entry, answered, ticked}
-use Rattle.ledger.specs.Demand.{plain, logOf}
+use Rattle.ledger.specs.Demand.{plain, openTo, logOf}
 
 -- a case: its number, what the definitions give, what the paper says
 pub record Case : Type 0 where
@@ -22,10 +22,6 @@ pub record Case : Type 0 where
   pub said : List ℕ
 
 -- ---- events
-
--- a Tx Open to a destination, its wait 0
-abbrev pub openTo : ℕ → Event
-openTo destination = record { code = txOpen; first = destination; second = SSP; third = slowRate; fourth = 0; fifth = 0; sixth = 0 }
 
 -- an OPEN received from a source
 abbrev pub openFrom : ℕ → Event
@@ -55,13 +51,17 @@ abbrev pub numbersOf : Told → List ℕ
 numbersOf (value v next) = 0 ∷ v ∷ next ∷ []
 numbersOf (refused n) = n ∷ []
 
--- the answers to a Tx Open and n ticks
-unfoldable pub afterTicks : ℕ → List ℕ
-afterTicks n = answersIn (logOf (openTo 5 ∷ ticks n))
+-- the answers, with their waits, to events from a fresh phy
+unfoldable pub answersTo : List Event → List ℕ
+answersTo es = answersIn (logOf es)
 
--- the answers to a Tx Open, m ticks, an AIP and n ticks, each with its tick
-unfoldable pub afterAip : (m n : ℕ) → List ℕ
-afterAip m n = answersAt 0 (logOf (openTo 5 ∷ (ticks m ++ (plain aipReceived ∷ ticks n))))
+-- the answers, each with its tick
+unfoldable pub answersTimed : List Event → List ℕ
+answersTimed es = answersAt 0 (logOf es)
+
+-- the refusals
+unfoldable pub refusalsTo : List Event → List ℕ
+refusalsTo es = refusalsIn (logOf es)
 
 -- ---- the cases
 
@@ -75,35 +75,35 @@ M2 = record { number = 2; given = run syncAcquired (invalid ∷ dataDword ∷ in
 
 -- Tx Open and 1,999 ticks: no answer
 abbrev pub M3 : Case
-M3 = record { number = 3; given = afterTicks 1999; said = [] }
+M3 = record { number = 3; given = answersTo (openTo 5 ∷ ticks 1999); said = [] }
 
 -- one tick more: 69, with a wait of 1,000
 abbrev pub M4 : Case
-M4 = record { number = 4; given = afterTicks 2000; said = openTimeout ∷ 1000 ∷ [] }
+M4 = record { number = 4; given = answersTo (openTo 5 ∷ ticks 2000); said = openTimeout ∷ 1000 ∷ [] }
 
 -- Tx Open, 999 ticks, an AIP, 2,000 ticks: 69 at tick 2,999
 abbrev pub M5 : Case
-M5 = record { number = 5; given = afterAip 999 2000; said = openTimeout ∷ 2999 ∷ [] }
+M5 = record { number = 5; given = answersTimed (openTo 5 ∷ (ticks 999 ++ (plain aipReceived ∷ ticks 2000))); said = openTimeout ∷ 2999 ∷ [] }
 
 -- Accept, OPEN from 7, Tx Open to 7, tick: 52, with a wait of 1
 abbrev pub M6 : Case
-M6 = record { number = 6; given = answersIn (logOf (plain acceptOpens ∷ openFrom 7 ∷ openTo 7 ∷ plain tick ∷ [])); said = openedByDestination ∷ 1 ∷ [] }
+M6 = record { number = 6; given = answersTo (plain acceptOpens ∷ openFrom 7 ∷ openTo 7 ∷ plain tick ∷ []); said = openedByDestination ∷ 1 ∷ [] }
 
 -- the same with a Tx Open to 8: 53
 abbrev pub M7 : Case
-M7 = record { number = 7; given = answersIn (logOf (plain acceptOpens ∷ openFrom 7 ∷ openTo 8 ∷ plain tick ∷ [])); said = openedByOther ∷ 1 ∷ [] }
+M7 = record { number = 7; given = answersTo (plain acceptOpens ∷ openFrom 7 ∷ openTo 8 ∷ plain tick ∷ []); said = openedByOther ∷ 1 ∷ [] }
 
 -- OPEN, BREAK, Tx Open, tick: 51
 abbrev pub M8 : Case
-M8 = record { number = 8; given = answersIn (logOf (openFrom 7 ∷ plain breakReceived ∷ openTo 5 ∷ plain tick ∷ [])); said = collided ∷ 1 ∷ [] }
+M8 = record { number = 8; given = answersTo (openFrom 7 ∷ plain breakReceived ∷ openTo 5 ∷ plain tick ∷ []); said = collided ∷ 1 ∷ [] }
 
 -- Tx Open, Cancel, BREAK: 71
 abbrev pub M9 : Case
-M9 = record { number = 9; given = answersIn (logOf (openTo 5 ∷ plain cancelOpen ∷ plain breakReceived ∷ [])); said = portLayerRequest ∷ 0 ∷ [] }
+M9 = record { number = 9; given = answersTo (openTo 5 ∷ plain cancelOpen ∷ plain breakReceived ∷ []); said = portLayerRequest ∷ 0 ∷ [] }
 
 -- Tx Open twice: the second is refused with 3
 abbrev pub M10 : Case
-M10 = record { number = 10; given = refusalsIn (logOf (openTo 5 ∷ openTo 5 ∷ [])); said = 0 ∷ busy ∷ [] }
+M10 = record { number = 10; given = refusalsTo (openTo 5 ∷ openTo 5 ∷ []); said = 0 ∷ busy ∷ [] }
 
 -- 300 is AC 02
 abbrev pub M11 : Case

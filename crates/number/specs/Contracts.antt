@@ -1,4 +1,4 @@
--- What each public function promises, cited by its `ensures` and by the theorem that two results it allows coincide.
+-- What each function promises, cited by its `ensures` and, of the public ones, by the theorem that two results it allows coincide.
 use Prim.Native.Nat.{ℕ}
 use mathlib.Core.Bool.{false}
 use mathlib.Core.List.{List}

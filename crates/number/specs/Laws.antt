@@ -1,4 +1,4 @@
--- What is promised of numbers beyond the contracts. Each statement is proved in proofs/ under the name given beside it.
+-- What is promised of numbers beyond the contracts. Each statement is proved under its own name, in the file of proofs/ that stands beside its heading.
 use Prim.Native.Nat.{ℕ, _+_, _*_, _%_, _^_, _≤_, _<_}
 use mathlib.Core.List.{List, [], _∷_, _++_, map}
 use mathlib.Core.Logic.{_↔_, _⊎_}
@@ -128,7 +128,7 @@ NoRoomExactly = (v : ℕ) (buffer : List ℕ) (place : ℕ) → writeNumber v bu
 abbrev pub NoRoomKeeps : Type 0
 NoRoomKeeps = (v : ℕ) (buffer : List ℕ) (place : ℕ) → writeNumber v buffer place ≡ writing.refused noRoom → bufferAfter v buffer place ≡ buffer
 
--- ---- one form for each value (proofs/OneForm, which nothing else cites: padded numbers will remove it)
+-- ---- one form for each value (proofs/OneForm, which trace's own alone cites: padded numbers will remove both)
 
 -- each is a byte
 abbrev pub Bytes : List ℕ → Type 0

@@ -119,6 +119,7 @@ rejectAnswers =
 unfoldable pub rejectAnswer : ℕ → ℕ
 rejectAnswer reason = rows reason rejectAnswers 0
 
+-- in L1 the request is answered, in L5 the reason is not used
 abbrev pub openRejectRows : Phy → Event → List (Row Stepped)
 openRejectRows p e =
     (L1 ⇒ answers (idle (p .settings)) (rejectAnswer (e .first)) (p .request) 0 0)
@@ -181,11 +182,11 @@ tickRequesting p = counts p (reports (requesting (p .settings) L5 P4 fullTimer (
 unfoldable pub tickClosing : Phy → Stepped
 tickClosing p = counts p (reports (connected (p .settings) L5 fullTimer (p .connection) false) closedTimeout BREAK)
 
--- L5: no BREAK came
+-- L5: nothing came that ends it
 unfoldable pub tickBreaking : Phy → Stepped
 tickBreaking p = counts p (toIdle p 0)
 
--- who opened the connection for which a request waited
+-- how a request that waits is answered, by who opened the connection
 unfoldable pub openedBy : (source destination : ℕ) → ℕ
 openedBy source destination = pick (eqb source destination) openedByDestination openedByOther
 
@@ -202,6 +203,7 @@ accepted p = rows (p .port) (acceptRows p) (reports (connected (p .settings) L3 
 unfoldable pub tickSelected : Phy → Stepped
 tickSelected p = pick (p .settings .accept) (accepted p) (toIdle p OPEN-REJECT)
 
+-- by the link, in the order of the paper
 abbrev pub tickRows : Phy → List (Row Stepped)
 tickRows p =
     (L1 ⇒ tickRequesting p)
@@ -211,9 +213,11 @@ tickRows p =
     ∷ (L2 ⇒ tickSelected p)
     ∷ []
 
+-- what a tick does once the wait has risen
 unfoldable pub onTickAged : Phy → Stepped
 onTickAged p = rows (p .link) (tickRows p) (quiet p)
 
+-- the wait rises before all else
 unfoldable pub onTick : Phy → Stepped
 onTick p = onTickAged (aged p)
 

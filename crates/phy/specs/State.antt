@@ -12,6 +12,7 @@ use Rattle.phy.specs.declared.Phy.{Phy}
 
 -- ---- shapes: what is in use is given, all else is zero
 
+-- no Open: every argument zero
 abbrev pub noOpen : Open
 noOpen = record { destination = 0; protocol = 0; rate = 0; tag = 0; blocked = 0; wait = 0 }
 

@@ -32,8 +32,8 @@ pub struct Settings {
     pub accept: bool,
 }
 
-// Numbers of any size may stand here: `valid` tells which records are states. `closed` says that the
-// far end has closed.
+// Numbers of any size may stand here: `valid` tells which records are states. `inbound` and `connection`
+// are the protocols of the far end's OPEN and of the connection; `closed` says that the far end has closed.
 pub struct Phy {
     pub link: u64,
     pub port: u64,

@@ -52,7 +52,7 @@ use event::Open;
 use event::SMP;
 use event::open_of;
 
-// Entering L0: a request that waits, or a reason that was kept, is answered; a connection is over.
+// Entering L0: a request that waits is answered, with the reason where one was kept; a connection is over.
 pub fn to_idle(p: Phy, sent: u8) -> Stepped
     ensures { λ r. ⌜ r ≡ toIdle p sent ⌝ }
 {
@@ -89,6 +89,7 @@ pub fn on_tx_open(p: Phy, e: Event) -> Stepped
     refused(p, table::BUSY)
 }
 
+// With L2 or L6 no OPEN of ours is out that could be taken back: the cancel is accepted and forgotten.
 pub fn on_cancel_open(p: Phy) -> Stepped
     ensures { λ r. ⌜ r ≡ onCancelOpen p ⌝ }
 {
@@ -155,6 +156,7 @@ pub fn on_accept(p: Phy, accept: bool) -> Stepped
     quiet(next)
 }
 
+// An OPEN that is reported in L1 outranks ours: the chip has arbitrated, so there is nothing to compare.
 pub fn on_open_received(p: Phy, e: Event) -> Stepped
     ensures { λ r. ⌜ r ≡ onOpenReceived p e ⌝ }
 {
@@ -196,6 +198,7 @@ fn reject_answer(reason: u64) -> u64
     }
 }
 
+// In L5 the request is given up already, and the reason is not looked at.
 pub fn on_open_reject(p: Phy, e: Event) -> Stepped
     ensures { λ r. ⌜ r ≡ onOpenReject p e ⌝ }
 {

@@ -49,14 +49,15 @@ pub const STP_BUSY: u64 = 67;
 
 pub const WRONG_DESTINATION: u64 = 68;
 
-pub const TERMINATED: u64 = 80;
-
 // Answers that are kept as a reason until the link is idle.
 pub const OPEN_TIMEOUT: u64 = 69;
 
 pub const OPEN_BROKEN: u64 = 70;
 
 pub const PORT_LAYER_REQUEST: u64 = 71;
+
+// Ours, at a reset.
+pub const TERMINATED: u64 = 80;
 
 // Notices: a connection opened, and how one closed.
 pub const CONNECTION_OPENED: u8 = 1;

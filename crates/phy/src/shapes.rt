@@ -15,6 +15,7 @@ use crate::state::FRESH;
 use crate::state::NO_OPEN;
 use event::Open;
 
+// As a refusal with the number 0, which is none.
 pub fn quiet(p: Phy) -> Stepped
     ensures { λ r. ⌜ r ≡ Moves·quiet p ⌝ }
 {

@@ -110,7 +110,7 @@ fn tick_breaking(p: Phy) -> Stepped
     counted(p)
 }
 
-// The far end's OPEN is a connection, and our request is answered by who opened it.
+// The far end's OPEN is a connection, and our request is answered according to who opened it.
 fn accepted(p: Phy) -> Stepped
     ensures { λ r. ⌜ r ≡ Moves·accepted p ⌝ }
 {

@@ -113,7 +113,7 @@ module _ {p : Phy} {s : List ℕ} {budget : ℕ} {before : List ℕ} {state : Ph
   halted-budget h q = halted (ap (λ (n : ℕ). taking n s place) (none-left q) ∙ taking-spent s place h)
 
   -- a fault, with budget left
-  pub halted-fault : {n : ℕ} {r : Ran} → (count ≡ budget → ⊥) → readEvent s place ≡ reading.refused n place → tells r ≡ told count state (atFault n place) → TakesEvents p s budget before r buffer
+  pub halted-fault : {n first : ℕ} {r : Ran} → (count ≡ budget → ⊥) → readEvent s place ≡ reading.refused n first → tells r ≡ told count state (atFault n first) → TakesEvents p s budget before r buffer
   halted-fault h f = halted (ap (λ (n : ℕ). taking n s place) (some-left h) ∙ taking-fault s place fewer f)
 
   -- the trace has ended

@@ -1,4 +1,4 @@
--- What is promised of a run beyond its contract. Each statement is proved in proofs/ under the name given beside it.
+-- What is promised of a run beyond its contract. Each statement is proved under its own name, in the file of proofs/ that stands beside its heading.
 use Prim.Native.Nat.{ℕ, _+_, _≤_, _<_}
 use mathlib.Core.Bool.{true, false}
 use mathlib.Core.List.{List, [], _∷_, _++_}
@@ -68,6 +68,7 @@ pub data Why (s : List ℕ) (budget count last : ℕ) : Halt → Type 0 where
   spent : last < length s → count ≡ budget → Why s budget count last atBudget
   faulty : {n : ℕ} → last < length s → count < budget → readEvent s last ≡ reading.refused n last → Why s budget count last (atFault n last)
 
+-- the events taken lead from a place to `last`, are no more than the budget, and stop there for a reason
 pub record StopsWell (s : List ℕ) (budget place : ℕ) (c : Course) : Type 0 where
   pub last : ℕ
   pub passes : Passes s place (c .events) last

@@ -30,9 +30,11 @@ pub record Course : Type 0 where
   pub events : List Event
   pub halt : Halt
 
+-- nothing more is taken
 abbrev pub stops : Halt → Course
 stops halt = record { events = []; halt = halt }
 
+-- one event, and then the rest
 abbrev pub first : Event → Course → Course
 first e c = record { events = e ∷ c .events; halt = c .halt }
 
@@ -51,11 +53,12 @@ taking (suc budget) s place = onwards (readEvent s place) (taking budget s)
 unfoldable pub byteOf : Stepped → ℕ
 byteOf r = pick (eqb (r .refusal) 0) (r .answer) (r .refusal)
 
--- one byte for each event that comes to a phy
+-- one byte for each entry of a log
 abbrev pub bytesIn : List Entry → List ℕ
 bytesIn [] = []
 bytesIn (x ∷ xs) = byteOf (x .result) ∷ bytesIn xs
 
+-- one byte for each event of a list
 abbrev pub bytesOf : Phy → List Event → List ℕ
 bytesOf p es = bytesIn (log stepOf p es)
 
@@ -65,6 +68,7 @@ pub record Told : Type 0 where
   pub state : Phy
   pub halt : Halt
 
+-- these three
 abbrev pub told : (count : ℕ) → (state : Phy) → Halt → Told
 told count state halt = record { count = count; state = state; halt = halt }
 
@@ -91,5 +95,6 @@ tellsStop (TooLarge place) = atFault tooLarge place
 tellsStop BadState = refused badState
 tellsStop NoRoom = refused noRoom
 
+-- what a result of the code says
 abbrev pub tells : Ran → Told
 tells r = told (r .count) (r .next) (tellsStop (r .stop))

@@ -60,7 +60,7 @@ fn take_events(phy: Phy, trace: &[u8], budget: usize, buffer: &mut [u8]) -> Ran
         if count == budget {
             return stopped(state, count, Stop::Budget);
         }
-        match trace::read_event(trace, place) {
+        match trace::event_at(trace, place) {
             EventRead::Event { event, next } => {
                 let r = phy::moved(state, event);
                 buffer[count] = byte_of(r);
@@ -70,10 +70,10 @@ fn take_events(phy: Phy, trace: &[u8], budget: usize, buffer: &mut [u8]) -> Ran
             }
             // Not met: the place lies inside the trace.
             EventRead::End => return stopped(state, count, Stop::End),
-            EventRead::BadEvent => return stopped(state, count, Stop::BadEvent(place)),
-            EventRead::Cut => return stopped(state, count, Stop::Cut(place)),
-            EventRead::Overlong => return stopped(state, count, Stop::Overlong(place)),
-            EventRead::TooLarge => return stopped(state, count, Stop::TooLarge(place)),
+            EventRead::BadEvent(first) => return stopped(state, count, Stop::BadEvent(first)),
+            EventRead::Cut(first) => return stopped(state, count, Stop::Cut(first)),
+            EventRead::Overlong(first) => return stopped(state, count, Stop::Overlong(first)),
+            EventRead::TooLarge(first) => return stopped(state, count, Stop::TooLarge(first)),
         }
     }
     stopped(state, count, Stop::End)

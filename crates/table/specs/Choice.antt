@@ -20,6 +20,7 @@ pub record Row {ℓ} (A : Type ℓ) : Type ℓ where
   pub key : ℕ
   pub entry : A
 
+-- a row as it is written
 abbrev pub _⇒_ {ℓ} : {A : Type ℓ} → ℕ → A → Row A
 k ⇒ a = record { key = k; entry = a }
 
@@ -38,5 +39,6 @@ abbrev pub OthersFrom : {A : Type 0} → Type 0 → ℕ → List (Row A) → Typ
 OthersFrom known n [] = known
 OthersFrom known n (r ∷ rs) = OthersFrom (known × (n ≡ r .key → ⊥)) n rs
 
+-- no row has the number n
 abbrev pub Unlisted : {A : Type 0} → ℕ → List (Row A) → Type 0
 Unlisted n table = OthersFrom Unit n table

@@ -19,19 +19,19 @@ use Rattle.trace.specs.declared.Reader.{Reader}
 answer : Told → EventRead
 answer (event e next) = read.Event e next
 answer end = read.End
-answer (reading.refused n at) = rows n ((badEvent ⇒ read.BadEvent) ∷ (cut ⇒ read.Cut) ∷ (overlong ⇒ read.Overlong) ∷ []) read.TooLarge
+answer (reading.refused n at) = rows n ((badEvent ⇒ read.BadEvent at) ∷ (cut ⇒ read.Cut at) ∷ (overlong ⇒ read.Overlong at) ∷ []) (read.TooLarge at)
 
-answers : (place : ℕ) (r : EventRead) → answer (tells place r) ≡ r
+answers : (r : EventRead) → answer (tells r) ≡ r
 unfolding answer
-answers place (read.Event e next) = refl
-answers place read.End = refl
-answers place read.BadEvent = refl
-answers place read.Cut = refl
-answers place read.Overlong = refl
-answers place read.TooLarge = refl
+answers (read.Event e next) = refl
+answers read.End = refl
+answers (read.BadEvent first) = refl
+answers (read.Cut first) = refl
+answers (read.Overlong first) = refl
+answers (read.TooLarge first) = refl
 
 pub read-tells-once : ReadTellsOnce
-read-tells-once place r q e = sym (answers place r) ∙ ap answer e ∙ answers place q
+read-tells-once r q e = sym (answers r) ∙ ap answer e ∙ answers q
 
 answer-written : ToldWritten → EventWritten
 answer-written (wrote n) = written.Length n
@@ -47,7 +47,7 @@ pub written-tells-once : WrittenTellsOnce
 written-tells-once r q e = sym (answers-written r) ∙ ap answer-written e ∙ answers-written q
 
 pub read-determined : ReadDetermined
-read-determined s place r q a b = read-tells-once place r q (a ∙ sym b)
+read-determined s place r q a b = read-tells-once r q (a ∙ sym b)
 
 pub write-determined : WriteDetermined
 write-determined e before place r q after later a b = (written-tells-once r q (a .says ∙ sym (b .says)), a .bytes ∙ sym (b .bytes))

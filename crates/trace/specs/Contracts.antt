@@ -14,13 +14,13 @@ use Rattle.trace.specs.declared.EventRead.{EventRead}
 use Rattle.trace.specs.declared.EventWritten.{EventWritten}
 use Rattle.trace.specs.declared.Reader.{Reader}
 
--- `read_arguments` of a code, from a place of the slice s on, wherever the event starts
-abbrev pub ReadsArguments : List ℕ → ℕ → ℕ → EventRead → Type 0
-ReadsArguments s code place r = (start : ℕ) → tells start r ≡ said start (afterCode code s place)
+-- `read_arguments` of a code, from a place of the slice s on, of an event whose first byte is at `first`
+abbrev pub ReadsArguments : List ℕ → (code place first : ℕ) → EventRead → Type 0
+ReadsArguments s code place first r = tells r ≡ said first (afterCode code s place)
 
 -- `read_event` of the slice s at a place
 abbrev pub ReadsEvent : List ℕ → ℕ → EventRead → Type 0
-ReadsEvent s place r = tells place r ≡ readEvent s place
+ReadsEvent s place r = tells r ≡ readEvent s place
 
 -- what `write_numbers` asks: the event is known and its bytes fit
 pub record HasRoom (e : Event) (buffer : List ℕ) (place : ℕ) : Type 0 where

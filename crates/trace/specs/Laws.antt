@@ -1,4 +1,4 @@
--- What is promised of events of a trace beyond the contracts. Each statement is proved in proofs/ under the name given beside it.
+-- What is promised of events of a trace beyond the contracts. Each statement is proved under its own name, in the file of proofs/ that stands beside its heading.
 use Prim.Native.Nat.{ℕ, _+_, _≤_, _<_}
 use mathlib.Core.Bool.{true, false}
 use mathlib.Core.List.{List, [], _∷_, _++_}
@@ -9,10 +9,10 @@ use denote.Ref.{RefT}
 use Rattle.table.specs.Refusals.{badEvent, cut, overlong, tooLarge, noRoom}
 use Rattle.number.specs.Reading.{value, readNumber}
 use Rattle.number.specs.Laws.{EndsEarly, EndsInZero, TenthTooLarge, Bytes}
-use Rattle.event.specs.Table.{argumentsOf, within, codeKnown, knownOf}
+use Rattle.event.specs.Table.{argumentsOf, within, codeKnown, knownOf, codes}
 use Rattle.event.specs.declared.Event.{Event}
 use Rattle.event.specs.declared.Range.{Range}
-use Rattle.trace.specs.Reading.{event, end, eventOf, codes, readEvent, eventGiven, placeReached, tells}
+use Rattle.trace.specs.Reading.{event, end, eventOf, readEvent, eventGiven, placeReached, tells}
 use Rattle.trace.specs.Reading as reading
 use Rattle.trace.specs.Writing.{wrote, eventBytes, traceBytes, writeEvent, bufferAfter, lengthGiven, tellsWritten}
 use Rattle.trace.specs.Writing as writing
@@ -23,9 +23,9 @@ use Rattle.trace.specs.declared.Reader.{Reader}
 
 -- ---- each answer says one thing (proofs/Determined)
 
--- no two answers of the reader at a place say the same
+-- no two answers of the reader say the same
 abbrev pub ReadTellsOnce : Type 0
-ReadTellsOnce = (place : ℕ) (r q : EventRead) → tells place r ≡ tells place q → r ≡ q
+ReadTellsOnce = (r q : EventRead) → tells r ≡ tells q → r ≡ q
 
 -- no two answers of the writer say the same
 abbrev pub WrittenTellsOnce : Type 0
@@ -136,7 +136,7 @@ pub record AtFirstByte (s : List ℕ) (place at : ℕ) : Type 0 where
 abbrev pub FaultAtFirst : Type 0
 FaultAtFirst = (s : List ℕ) (place n at : ℕ) → readEvent s place ≡ reading.refused n at → AtFirstByte s place at
 
--- the trace has ended at its last byte's end and past it
+-- the trace has ended at its length and past it
 abbrev pub EndExactly : Type 0
 EndExactly = (s : List ℕ) (place : ℕ) → readEvent s place ≡ end ↔ (length s ≤ place)
 

@@ -7,8 +7,7 @@ use Rattle.table.specs.Choice.{pick}
 use Rattle.table.specs.Refusals.{badEvent, cut, overlong, tooLarge}
 use Rattle.number.specs.Reading.{value, readNumber}
 use Rattle.number.specs.Reading as number
-use Rattle.event.specs.Names.{txOpen, phyDisabled}
-use Rattle.event.specs.Table.{_to_, argumentsOf, within}
+use Rattle.event.specs.Table.{argumentsOf, within, codes}
 use Rattle.event.specs.declared.Event.{Event}
 use Rattle.event.specs.declared.Range.{Range}
 use Rattle.trace.specs.declared.EventRead.{EventRead}
@@ -30,6 +29,7 @@ abbrev pub onwards : {A B : Type 0} → Got A → (A → ℕ → Got B) → Got 
 onwards (got a next) f = f a next
 onwards (fault n) f = fault n
 
+-- what reading one number says, in those words
 abbrev pub ofNumber : number.Told → Got ℕ
 ofNumber (value v next) = got v next
 ofNumber (number.refused n) = fault n
@@ -50,10 +50,6 @@ eventOf code vs = record { code = code; first = getD vs 0 0; second = getD vs 1 
 -- the event of a code whose arguments start at a place
 abbrev pub afterCode : ℕ → List ℕ → ℕ → Got Event
 afterCode code s place = onwards (arguments (argumentsOf code) s place) λ vs next. got (eventOf code vs) next
-
--- the codes that are known
-abbrev pub codes : Range
-codes = txOpen to phyDisabled
 
 -- the numbers of an event: its code, and its arguments once the code is known
 abbrev pub readNumbers : List ℕ → ℕ → Got Event
@@ -80,11 +76,11 @@ placeReached place (event e next) = next
 placeReached place end = place
 placeReached place (refused n at) = place
 
--- what each answer at a place says, as the paper numbers it
-abbrev pub tells : (place : ℕ) → EventRead → Told
-tells place (Known e next) = event e next
-tells place End = end
-tells place BadEvent = refused badEvent place
-tells place Cut = refused cut place
-tells place Overlong = refused overlong place
-tells place TooLarge = refused tooLarge place
+-- what each answer says, as the paper numbers it
+abbrev pub tells : EventRead → Told
+tells (Known e next) = event e next
+tells End = end
+tells (BadEvent first) = refused badEvent first
+tells (Cut first) = refused cut first
+tells (Overlong first) = refused overlong first
+tells (TooLarge first) = refused tooLarge first

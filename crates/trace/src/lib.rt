@@ -11,14 +11,14 @@ use number::NumberRead;
 use number::NumberWritten;
 
 // What stands at a place: an event and the place after it, the end of the trace, or why there is none.
-// A refusal is at the place that was given, the event's first byte.
+// A refusal has the place of the event's first byte.
 pub enum EventRead {
     Event { event: Event, next: usize },
     End,
-    BadEvent,
-    Cut,
-    Overlong,
-    TooLarge,
+    BadEvent(usize),
+    Cut(usize),
+    Overlong(usize),
+    TooLarge(usize),
 }
 
 // What writing did: how many bytes it wrote, or why it wrote none.
@@ -34,9 +34,10 @@ pub struct Reader<'a> {
     pub place: usize,
 }
 
-// The arguments of a known code from a place on, in the order of the table.
-fn read_arguments(s: &[u8], code: u64, place: usize) -> EventRead
-    ensures { λ r. ⌜ ReadsArguments (now (s .entry)) code place r ⌝ }
+// The arguments of a known code from a place on, in the order of the table; `first` is the place of the
+// event's first byte.
+fn read_arguments(s: &[u8], code: u64, place: usize, first: usize) -> EventRead
+    ensures { λ r. ⌜ ReadsArguments (now (s .entry)) code place first r ⌝ }
 {
     let count = event::argument_count(code);
     // An argument that the event lacks stays zero.
@@ -54,12 +55,12 @@ fn read_arguments(s: &[u8], code: u64, place: usize) -> EventRead
                     next = after;
                     i += 1;
                 } else {
-                    return EventRead::BadEvent;
+                    return EventRead::BadEvent(first);
                 }
             }
-            NumberRead::Cut => return EventRead::Cut,
-            NumberRead::Overlong => return EventRead::Overlong,
-            NumberRead::TooLarge => return EventRead::TooLarge,
+            NumberRead::Cut => return EventRead::Cut(first),
+            NumberRead::Overlong => return EventRead::Overlong(first),
+            NumberRead::TooLarge => return EventRead::TooLarge(first),
         }
     }
     let event = Event {
@@ -75,7 +76,7 @@ fn read_arguments(s: &[u8], code: u64, place: usize) -> EventRead
 }
 
 // The event at a place of a trace; any place is taken, and past the last byte the trace has ended.
-pub fn read_event(s: &[u8], place: usize) -> EventRead
+fn read_event(s: &[u8], place: usize) -> EventRead
     ensures { λ r. ⌜ ReadsEvent (now (s .entry)) place r ⌝ }
 {
     if s.len() <= place {
@@ -85,14 +86,14 @@ pub fn read_event(s: &[u8], place: usize) -> EventRead
         NumberRead::Value { value, next } => {
             // An unknown code has no arguments to read.
             if event::code_known(value) {
-                read_arguments(s, value, next)
+                read_arguments(s, value, next, place)
             } else {
-                EventRead::BadEvent
+                EventRead::BadEvent(place)
             }
         }
-        NumberRead::Cut => EventRead::Cut,
-        NumberRead::Overlong => EventRead::Overlong,
-        NumberRead::TooLarge => EventRead::TooLarge,
+        NumberRead::Cut => EventRead::Cut(place),
+        NumberRead::Overlong => EventRead::Overlong(place),
+        NumberRead::TooLarge => EventRead::TooLarge(place),
     }
 }
 

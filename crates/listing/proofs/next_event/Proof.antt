@@ -7,8 +7,8 @@ use Rattle.listing.proofs.next_event.Statement.{statement}
 use Rattle.listing.proofs.next_event.Tie as tie
 
 -- what the answer at the place is known to be, the definition reads
-read : (c : tie.After-read-event) {r : EventRead} → c .read-event .result ≡ r → readEvent (c .before .before .before .args .trace .now) (c .before .before .before .args .place) ≡ tells (c .before .before .before .args .place) r
-read c e = sym (c .read-event .ensures) ∙ ap (tells (c .before .before .before .args .place)) e
+read : (c : tie.After-event-at) {r : EventRead} → c .event-at .result ≡ r → readEvent (c .before .before .before .args .trace .now) (c .before .before .before .args .place) ≡ tells r
+read c e = sym (c .event-at .ensures) ∙ ap tells e
 
 returns : tie.Need-returns
 returns c =
@@ -19,16 +19,16 @@ returns-2 : tie.Need-returns-2
 returns-2 c = rw (read (c .before .before .before .before .before .before .before) (c .before .before .before .before .before .enum-told .given .1)) (c .before .before .put-line2 .ensures _ (c .before .before .before .before .end-line .ensures))
 
 returns-3 : tie.Need-returns-3
-returns-3 c = rw (read (c .before .before .before .before .before .before) (c .before .before .before .before .enum-told2 .given .1)) (c .before .before .put-stop .ensures)
+returns-3 c = rw (read (c .before .before .before .before .before .before .before) (c .before .before .before .before .before .first .given .1)) (c .before .before .put-stop .ensures)
 
 returns-4 : tie.Need-returns-4
-returns-4 c = rw (read (c .before .before .before .before .before .before) (c .before .before .before .before .enum-told3 .given .1)) (c .before .before .put-stop2 .ensures)
+returns-4 c = rw (read (c .before .before .before .before .before .before .before) (c .before .before .before .before .before .first2 .given .1)) (c .before .before .put-stop2 .ensures)
 
 returns-5 : tie.Need-returns-5
-returns-5 c = rw (read (c .before .before .before .before .before .before) (c .before .before .before .before .enum-told4 .given .1)) (c .before .before .put-stop3 .ensures)
+returns-5 c = rw (read (c .before .before .before .before .before .before .before) (c .before .before .before .before .before .first3 .given .1)) (c .before .before .put-stop3 .ensures)
 
 returns-6 : tie.Need-returns-6
-returns-6 c = rw (read (c .before .before .before .before .before .before) (c .before .before .before .before .enum-told5 .given .1)) (c .before .before .put-stop4 .ensures)
+returns-6 c = rw (read (c .before .before .before .before .before .before .before) (c .before .before .before .before .before .first4 .given .1)) (c .before .before .put-stop4 .ensures)
 
 pub next-event-spec : {M : Type 1} → statement M
 next-event-spec =

@@ -11,10 +11,10 @@ use Rattle.trace.proofs.read_arguments.Statement.{statement}
 use Rattle.trace.proofs.read_arguments.Tie as tie
 
 abbrev Inv-loop : tie.InvT-loop
-Inv-loop s code place count values₀ next₀ i₀ values next i = Taken s code place values next i
+Inv-loop s code place first count values₀ next₀ i₀ values next i = Taken s code place values next i
 
 abbrev μ-loop : tie.MeasureT-loop
-μ-loop s code place count values₀ next₀ i₀ values next i = count - i
+μ-loop s code place first count values₀ next₀ i₀ values next i = count - i
 
 loop-again : tie.Need-loop-again Inv-loop μ-loop
 loop-again c =
@@ -23,24 +23,24 @@ loop-again c =
     (rw (← c .before .argument-range .ensures) (c .if1 .taken))
 
 returns : tie.Need-returns Inv-loop μ-loop
-returns c start =
+returns c =
     sym
-    (ap (said start)
+    (ap (said _)
     (taken-bad (c .before .before .before .before .before .before .before .loop .inv) (omega arith)
     (sym (c .before .before .before .before .before .read-number .ensures) ∙ ap tells (c .before .before .before .value .given .1))
     (rw (← c .before .argument-range .ensures) (c .if1 .left))))
 
 returns-2 : tie.Need-returns-2 Inv-loop μ-loop
-returns-2 c start = sym (ap (said start) (taken-fault (c .before .before .before .before .loop .inv) (omega arith) (sym (c .before .before .read-number .ensures) ∙ ap tells (c .enum-told .given .1))))
+returns-2 c = sym (ap (said _) (taken-fault (c .before .before .before .before .loop .inv) (omega arith) (sym (c .before .before .read-number .ensures) ∙ ap tells (c .enum-told .given .1))))
 
 returns-3 : tie.Need-returns-3 Inv-loop μ-loop
-returns-3 c start = sym (ap (said start) (taken-fault (c .before .before .before .before .loop .inv) (omega arith) (sym (c .before .before .read-number .ensures) ∙ ap tells (c .enum-told2 .given .1))))
+returns-3 c = sym (ap (said _) (taken-fault (c .before .before .before .before .loop .inv) (omega arith) (sym (c .before .before .read-number .ensures) ∙ ap tells (c .enum-told2 .given .1))))
 
 returns-4 : tie.Need-returns-4 Inv-loop μ-loop
-returns-4 c start = sym (ap (said start) (taken-fault (c .before .before .before .before .loop .inv) (omega arith) (sym (c .before .before .read-number .ensures) ∙ ap tells (c .enum-told3 .given .1))))
+returns-4 c = sym (ap (said _) (taken-fault (c .before .before .before .before .loop .inv) (omega arith) (sym (c .before .before .read-number .ensures) ∙ ap tells (c .enum-told3 .given .1))))
 
 returns-5 : tie.Need-returns-5 Inv-loop μ-loop
-returns-5 c start = sym (ap (said start) (taken-done (c .before .loop .inv) (omega arith)))
+returns-5 c = sym (ap (said _) (taken-done (c .before .loop .inv) (omega arith)))
 
 pub read-arguments-spec : {M : Type 1} → statement M
 read-arguments-spec =

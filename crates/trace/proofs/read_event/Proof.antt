@@ -8,7 +8,7 @@ use Rattle.trace.proofs.read_event.Tie as tie
 
 returns-2 : tie.Need-returns-2
 returns-2 c =
-    c .read-arguments .ensures (c .before .before .before .before .before .before .before .before .before .args .place)
+    c .read-arguments .ensures
     ∙ sym
     (code-good _ _ (c .before .before .before .before .before .before .before .if1 .left)
     (sym (c .before .before .before .before .before .before .read-number .ensures) ∙ ap tells (c .before .before .before .before .value .given .1))

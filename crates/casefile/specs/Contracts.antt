@@ -1,0 +1,51 @@
+-- What each function promises, cited by its `ensures` and, of the public ones, by the theorem that two results it allows coincide.
+use Prim.Native.Nat.{ℕ, _-_, _≤_}
+use mathlib.Core.List.{List}
+use mathlib.Core.Path.{_≡_}
+use lib.ListN.{length, take}
+use lib.Seq.{slice}
+use Rattle.casefile.specs.Reading.{taken, partAt, numbersAt, placeAfter}
+use Rattle.casefile.specs.Records.{phyNumbers, phyOf, eventOf}
+use Rattle.casefile.specs.declared.Taken.{Taken}
+use Rattle.casefile.specs.declared.Part.{Part}
+use Rattle.casefile.specs.declared.Ahead.{Ahead}
+use Rattle.event.specs.declared.Event.{Event}
+use Rattle.phy.specs.declared.Phy.{Phy}
+
+-- `take` of the case file s at a place; callers need that the place after it lies in the file
+pub record TakesNumber (s : List ℕ) (place : ℕ) (r : Taken) : Type 0 where
+  pub says : r ≡ taken s place
+  pub within : r .next ≤ length s
+
+-- `take_bytes`; callers need that it is a part of the file
+pub record TakesBytes (s : List ℕ) (place : ℕ) (r : Part) : Type 0 where
+  pub says : r ≡ partAt s place
+  pub ordered : r .from ≤ r .to
+  pub within : r .to ≤ length s
+
+-- `take_many` of as many numbers as the array `before` has, which leaves it as `after`
+pub record TakesNumbers (s : List ℕ) (place : ℕ) (before : List ℕ) (r : ℕ) (after : List ℕ) : Type 0 where
+  pub there : r ≡ placeAfter (length before) s place
+  pub numbers : after ≡ numbersAt (length before) s place
+
+-- `phy_of`, `phy_numbers` and `event_of`
+abbrev pub MakesPhy : List ℕ → Phy → Type 0
+MakesPhy f r = r ≡ phyOf f
+
+abbrev pub GivesNumbers : Phy → List ℕ → Type 0
+GivesNumbers p r = r ≡ phyNumbers p
+
+abbrev pub MakesEvent : List ℕ → Event → Type 0
+MakesEvent f r = r ≡ eventOf f
+
+-- `to_front` of a part of the window `before`, which leaves it as `after`
+pub record MovesToFront (before : List ℕ) (from to r : ℕ) (after : List ℕ) : Type 0 where
+  pub long : r ≡ to - from
+  pub front : take r after ≡ slice from to before
+  pub same : length after ≡ length before
+
+-- `slide` of the window `before`, which leaves it as `after`: what was ahead in the window is ahead still, before what was read
+pub record Slides (before : List ℕ) (ahead r : Ahead) (after : List ℕ) : Type 0 where
+  pub ordered : r .from ≤ r .to
+  pub within : r .to ≤ length after
+  pub kept : take (length (slice (ahead .from) (ahead .to) before)) (slice (r .from) (r .to) after) ≡ slice (ahead .from) (ahead .to) before

@@ -1,0 +1,62 @@
+-- The records that a case file holds as numbers, in the order of their fields.
+use Prim.Native.Nat.{ℕ}
+use mathlib.Core.Bool.{Bool, true, false}
+use mathlib.Core.List.{List, [], _∷_}
+use lib.Dec.{eqb}
+use lib.ListN.{getD}
+use Rattle.event.specs.declared.Event.{Event}
+use Rattle.event.specs.declared.Open.{Open}
+use Rattle.phy.specs.declared.Phy.{Phy}
+
+-- a flag as a number
+abbrev pub flag : Bool → ℕ
+flag true = 1
+flag false = 0
+
+-- a number as a flag
+abbrev pub flagOf : ℕ → Bool
+flagOf n = eqb n 1
+
+-- the numbers of a phy
+abbrev pub phyNumbers : Phy → List ℕ
+phyNumbers p =
+    p .link
+    ∷ p .port
+    ∷ p .timer
+    ∷ p .request .destination
+    ∷ p .request .protocol
+    ∷ p .request .rate
+    ∷ p .request .tag
+    ∷ p .request .blocked
+    ∷ p .request .wait
+    ∷ p .reason
+    ∷ p .source
+    ∷ p .inbound
+    ∷ p .connection
+    ∷ flag (p .closed)
+    ∷ flag (p .settings .accept)
+    ∷ []
+
+-- a phy's request, of its numbers
+abbrev pub requestOf : List ℕ → Open
+requestOf f = record { destination = getD f 3 0; protocol = getD f 4 0; rate = getD f 5 0; tag = getD f 6 0; blocked = getD f 7 0; wait = getD f 8 0 }
+
+-- the phy of numbers
+abbrev pub phyOf : List ℕ → Phy
+phyOf f =
+    record {
+      link = getD f 0 0;
+      port = getD f 1 0;
+      timer = getD f 2 0;
+      request = requestOf f;
+      reason = getD f 9 0;
+      source = getD f 10 0;
+      inbound = getD f 11 0;
+      connection = getD f 12 0;
+      closed = flagOf (getD f 13 0);
+      settings = record { accept = flagOf (getD f 14 0) };
+    }
+
+-- the event of numbers: its code and six arguments
+abbrev pub eventOf : List ℕ → Event
+eventOf f = record { code = getD f 0 0; first = getD f 1 0; second = getD f 2 0; third = getD f 3 0; fourth = getD f 4 0; fifth = getD f 5 0; sixth = getD f 6 0 }

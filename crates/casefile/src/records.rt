@@ -1,0 +1,74 @@
+// The records that a case file holds as numbers, in the order of their fields.
+ghost use Rattle.casefile.specs.Contracts.{MakesPhy, GivesNumbers, MakesEvent};
+use crate::EVENT_NUMBERS;
+use crate::PHY_NUMBERS;
+use event::Event;
+use event::Open;
+use phy::Phy;
+use phy::Settings;
+
+// A flag is set where its number is 1.
+pub fn phy_of(f: [u64; PHY_NUMBERS]) -> Phy
+    ensures { λ r. ⌜ MakesPhy f r ⌝ }
+{
+    let request = Open {
+        destination: f[3],
+        protocol: f[4],
+        rate: f[5],
+        tag: f[6],
+        blocked: f[7],
+        wait: f[8],
+    };
+    let settings = Settings { accept: f[14] == 1 };
+    Phy {
+        link: f[0],
+        port: f[1],
+        timer: f[2],
+        request,
+        reason: f[9],
+        source: f[10],
+        inbound: f[11],
+        connection: f[12],
+        closed: f[13] == 1,
+        settings,
+    }
+}
+
+// The numbers that a phy is made of again.
+pub fn phy_numbers(p: Phy) -> [u64; PHY_NUMBERS]
+    ensures { λ r. ⌜ GivesNumbers p r ⌝ }
+{
+    let request = p.request;
+    let settings = p.settings;
+    [
+        p.link,
+        p.port,
+        p.timer,
+        request.destination,
+        request.protocol,
+        request.rate,
+        request.tag,
+        request.blocked,
+        request.wait,
+        p.reason,
+        p.source,
+        p.inbound,
+        p.connection,
+        p.closed as u64,
+        settings.accept as u64,
+    ]
+}
+
+pub fn event_of(f: [u64; EVENT_NUMBERS]) -> Event
+    ensures { λ r. ⌜ MakesEvent f r ⌝ }
+{
+    Event {
+        code: f[0],
+        first: f[1],
+        second: f[2],
+        third: f[3],
+        fourth: f[4],
+        fifth: f[5],
+        sixth: f[6],
+    }
+}

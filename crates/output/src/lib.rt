@@ -1,0 +1,112 @@
+// Lines of text, gathered in a buffer: decimal numbers, one blank between two. Each function writes at
+// n and answers where the next one writes; what has no room is left out.
+ghost use mathlib.Core.List.{[], _∷_};
+ghost use Rattle.output.specs.Decimal.{decimal};
+ghost use Rattle.output.specs.Writing.{further};
+ghost use Rattle.output.specs.Contracts.{Puts, PutsAll, PutsMore, PutsNumbers, WritesOut, EndsLine, PutsNumbersLine};
+
+// The output is written once this much is gathered, so that a line always has room.
+pub const GATHERED: usize = 32768;
+
+fn put(out: &mut [u8], n: usize, b: u8) -> usize
+    ensures { λ r. ⌜ Puts (b ∷ []) (now (out .entry)) n r (now (out .exit)) ⌝ }
+{
+    if n < out.len() {
+        out[n] = b;
+        return n + 1;
+    }
+    n
+}
+
+// Bytes as they are.
+pub fn put_all(out: &mut [u8], n: usize, bytes: &[u8]) -> usize
+    ensures { λ r. ⌜ PutsAll (now (bytes .entry)) (now (out .entry)) n r (now (out .exit)) ⌝ }
+{
+    let mut end = n;
+    let mut i = 0;
+    while i < bytes.len() {
+        end = put(out, end, bytes[i]);
+        i += 1;
+    }
+    end
+}
+
+// The digits of a number.
+fn put_number(out: &mut [u8], n: usize, value: u64) -> usize
+    ensures { λ r. ⌜ Puts (decimal value) (now (out .entry)) n r (now (out .exit)) ⌝ }
+{
+    let mut digits = [0u8; 20];
+    let count = io::decimal(value, &mut digits);
+    put_all(out, n, &digits[..count])
+}
+
+// A further number of a line.
+fn put_next(out: &mut [u8], n: usize, value: u64) -> usize
+    ensures { λ r. ⌜ Puts (further value) (now (out .entry)) n r (now (out .exit)) ⌝ }
+{
+    let after = put(out, n, b' ');
+    put_number(out, after, value)
+}
+
+// Each as a further number of a line.
+pub fn put_more(out: &mut [u8], n: usize, numbers: &[u64]) -> usize
+    ensures { λ r. ⌜ PutsMore (now (numbers .entry)) (now (out .entry)) n r (now (out .exit)) ⌝ }
+{
+    let mut end = n;
+    let mut i = 0;
+    while i < numbers.len() {
+        end = put_next(out, end, numbers[i]);
+        i += 1;
+    }
+    end
+}
+
+// Each byte as a further number of a line.
+pub fn put_bytes(out: &mut [u8], n: usize, bytes: &[u8]) -> usize
+    ensures { λ r. ⌜ PutsMore (now (bytes .entry)) (now (out .entry)) n r (now (out .exit)) ⌝ }
+{
+    let mut end = n;
+    let mut i = 0;
+    while i < bytes.len() {
+        end = put_next(out, end, bytes[i] as u64);
+        i += 1;
+    }
+    end
+}
+
+// The first number of a line and then the others.
+pub fn put_numbers(out: &mut [u8], n: usize, first: u64, others: &[u64]) -> usize
+    ensures { λ r. ⌜ PutsNumbers first (now (others .entry)) (now (out .entry)) n r (now (out .exit)) ⌝ }
+{
+    let end = put_number(out, n, first);
+    put_more(out, end, others)
+}
+
+// What is gathered goes out once it is `least` or more; the answer is how much is gathered then.
+pub fn write_out(out: &[u8], n: usize, least: usize) -> usize
+    ensures { λ r. ⌜ WritesOut n least r ⌝ }
+{
+    if n < least {
+        return n;
+    }
+    if n <= out.len() {
+        io::write_all(1, &out[0..n]);
+    }
+    0
+}
+
+// The end of a line, after which a full buffer is written.
+pub fn end_line(out: &mut [u8], n: usize) -> usize
+    ensures { λ r. ⌜ EndsLine (now (out .entry)) n r (now (out .exit)) ⌝ }
+{
+    let after = put(out, n, b'\n');
+    write_out(out, after, GATHERED)
+}
+
+// A whole line.
+pub fn put_line(out: &mut [u8], n: usize, first: u64, others: &[u64]) -> usize
+    ensures { λ r. ⌜ PutsNumbersLine first (now (others .entry)) (now (out .entry)) n r (now (out .exit)) ⌝ }
+{
+    let end = put_numbers(out, n, first, others);
+    end_line(out, end)
+}

@@ -1,0 +1,40 @@
+// Cases of listings: the lister's own lines, with nothing before them.
+use crate::pieces::put_pieces;
+use casefile::Place;
+use listing::LineWritten;
+use output::GATHERED;
+use output::write_out;
+
+// How long a trace is of which this much was kept.
+fn total(kept: usize, whole: bool) -> usize {
+    if whole { kept } else { listing::MOST_TRACE + 1 }
+}
+
+// The lines of a trace that is `total` bytes long.
+fn put_listing(trace: &[u8], total: usize, out: &mut [u8], n: usize) -> usize {
+    let mut progress = listing::start(total);
+    let mut end = n;
+    loop {
+        match listing::next_line(trace, progress, out, end) {
+            LineWritten::Line { next, length } => {
+                progress = next;
+                end = write_out(out, end + length, GATHERED);
+            }
+            LineWritten::Done => return end,
+            // Not met: what is gathered is written before it leaves no room for a line.
+            LineWritten::NoRoom => return end,
+        }
+    }
+}
+
+// pieces: the listing of the trace that they make
+pub fn list_case(s: &[u8], place: usize, out: &mut [u8], n: usize) -> Place {
+    let mut trace = io::large_buffer();
+    let made = put_pieces(s, place, &mut trace);
+    let length = made.length;
+    let end = put_listing(&trace[..length], total(length, made.whole), out, n);
+    Place {
+        next: made.next,
+        n: end,
+    }
+}

@@ -1,0 +1,31 @@
+// A buffer in few numbers: how many equal bytes stand together, and which.
+use output::end_line;
+use output::put_more;
+use output::put_numbers;
+
+// Whether the bytes have no further b at i.
+fn ends_at(bytes: &[u8], i: usize, b: u8) -> bool {
+    if bytes.len() <= i {
+        return true;
+    }
+    bytes[i] != b
+}
+
+// A line of the pairs, none for an empty buffer.
+pub fn put_repeats(out: &mut [u8], n: usize, kind: u64, bytes: &[u8]) -> usize {
+    let none: [u64; 0] = [];
+    let mut end = put_numbers(out, n, kind, &none);
+    let mut count: usize = 0;
+    let mut i = 0;
+    while i < bytes.len() {
+        let b = bytes[i];
+        count += 1;
+        i += 1;
+        if ends_at(bytes, i, b) {
+            let pair = [count as u64, b as u64];
+            end = put_more(out, end, &pair);
+            count = 0;
+        }
+    }
+    end_line(out, end)
+}

@@ -1,0 +1,42 @@
+// Cases of whole traces: each event is read and written again where it stood.
+use crate::events::put_said;
+use crate::events::read_at;
+use crate::pieces::put_piece;
+use crate::repeats::put_repeats;
+use casefile::Place;
+use casefile::take_bytes;
+
+// What the copy is filled with, so that what no event was written over shows.
+const UNTOUCHED: u8 = 255;
+
+// A line for each event and for what ends the trace, and the copy that the events make.
+fn put_events(trace: &[u8], copy: &mut [u8], kind: u64, out: &mut [u8], n: usize) -> usize {
+    let mut end = n;
+    let mut place = 0;
+    let mut turns = 0;
+    while turns <= trace.len() {
+        turns += 1;
+        let said = read_at(trace, place);
+        end = put_said(out, end, kind, said);
+        if said.how != 0 {
+            return put_repeats(out, end, kind, copy);
+        }
+        trace::write_event(said.event, copy, place);
+        place = said.place;
+    }
+    // Not met: an event takes a byte at least.
+    end
+}
+
+// bytes, as many as the copy has room for: the lines of their events, and the copy
+pub fn trace_case(s: &[u8], kind: u64, place: usize, out: &mut [u8], n: usize) -> Place {
+    let part = take_bytes(s, place);
+    let from = part.from;
+    let to = part.to;
+    let mut copy = io::buffer();
+    let before = [UNTOUCHED];
+    let filled = put_piece(&before, (to - from) as u64, &mut copy, 0);
+    let room = filled.length;
+    let end = put_events(&s[from..to], &mut copy[..room], kind, out, n);
+    Place { next: to, n: end }
+}
