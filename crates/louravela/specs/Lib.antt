@@ -1,0 +1,4 @@
+pub mod Machines
+pub mod Events
+pub mod Contracts
+pub mod Laws

@@ -1,0 +1,340 @@
+/*
+ * The port code of a SAS shelf for C99 and C++: one phy (link and port), dword synchronization,
+ * identification, and the events of a trace. The archives are for x86-64; link those you call:
+ *
+ *     liblouravela.a          all but the functions below
+ *     liblouravela_step.a     louravela_phy_step
+ *     liblouravela_run.a      louravela_phy_run
+ *     liblouravela_number.a   louravela_number_read, louravela_number_write
+ *
+ * Every function takes any numbers and returns. What it does not take it refuses by number: the state
+ * comes back as given and every other report is zero. Each result is proved to be the one that the
+ * definitions give; what is not proved is what only a caller can see to:
+ *
+ *   - a pointer is to that many bytes that may be read, or written where they are lent to be written,
+ *     and is not null, also where the length is 0;
+ *   - the trace and the buffer of a run do not overlap.
+ *
+ * No function keeps a pointer, allocates, or has a state of its own, so any thread may call any of them.
+ */
+#ifndef LOURAVELA_H
+#define LOURAVELA_H
+
+#include <stddef.h>
+#include <stdint.h>
+
+#ifdef __cplusplus
+extern "C" {
+#endif
+
+/* ---- Numbers of refusal; 0 says that nothing is refused ---- */
+
+enum {
+    LOURAVELA_TAKEN = 0,
+    LOURAVELA_BAD_STATE = 1,       /* the state handed in is not a valid one, or a flag is neither 0 nor 1 */
+    LOURAVELA_BAD_EVENT = 2,       /* unknown code, an argument out of range, or one that the event lacks and is not 0 */
+    LOURAVELA_BUSY = 3,            /* Tx Open, and the port is not in P1 */
+    LOURAVELA_NOTHING_PENDING = 4, /* Cancel Open, and the port is not in P2 */
+    LOURAVELA_NOT_CONNECTED = 5,   /* Close or SMP Break, and the link is not in L3 */
+    LOURAVELA_WRONG_PROTOCOL = 6,  /* SMP Break in L3 on a connection that is not SMP */
+    LOURAVELA_CUT = 7,             /* a number's bytes end too early */
+    LOURAVELA_OVERLONG = 8,        /* a number is not in its shortest form */
+    LOURAVELA_TOO_LARGE = 9,       /* a number is 2^64 or more */
+    LOURAVELA_NO_ROOM = 10         /* the lent buffer is too short */
+};
+
+/* ---- The phy ---- */
+
+/* States of the link. */
+enum {
+    LOURAVELA_L0_IDLE = 0,
+    LOURAVELA_L1_ARB_SEL = 1,
+    LOURAVELA_L2_SELECTED = 2,
+    LOURAVELA_L3_CONNECTED = 3,
+    LOURAVELA_L4_DISCONNECT_WAIT = 4,
+    LOURAVELA_L5_BREAK_WAIT = 5,
+    LOURAVELA_L6_BREAK = 6
+};
+
+/* States of the port. */
+enum {
+    LOURAVELA_P1_IDLE = 1,
+    LOURAVELA_P2_REQ_WAIT = 2,
+    LOURAVELA_P3_CONNECTED = 3,
+    LOURAVELA_P4_WAIT_FOR_CLOSE = 4
+};
+
+enum {
+    LOURAVELA_SMP = 0,
+    LOURAVELA_SSP = 1,
+    LOURAVELA_STP = 2
+};
+
+/* Codes of events, with their arguments in order; a tick is one microsecond. */
+enum {
+    LOURAVELA_TX_OPEN = 1,              /* destination, protocol, rate 8 or 9, tag to 65,535, blocked count to 255, wait to 65,535 */
+    LOURAVELA_CANCEL_OPEN = 2,
+    LOURAVELA_CLOSE_CONNECTION = 3,
+    LOURAVELA_SMP_TRANSMIT_BREAK = 4,
+    LOURAVELA_ACCEPT_OPENS = 5,
+    LOURAVELA_REJECT_OPENS = 6,
+    LOURAVELA_OPEN_RECEIVED = 7,        /* source, protocol */
+    LOURAVELA_OPEN_ACCEPT_RECEIVED = 8,
+    LOURAVELA_OPEN_REJECT_RECEIVED = 9, /* reason 0 to 7 */
+    LOURAVELA_AIP_RECEIVED = 10,
+    LOURAVELA_BREAK_RECEIVED = 11,
+    LOURAVELA_CLOSE_RECEIVED = 12,
+    LOURAVELA_TICK = 13,
+    LOURAVELA_HARD_RESET = 14,
+    LOURAVELA_PHY_DISABLED = 15
+};
+
+/* Answers to an Open; 0 says that there is none yet. */
+enum {
+    LOURAVELA_ANSWER_OPENED = 32,
+    LOURAVELA_ANSWER_RETRY = 48,
+    LOURAVELA_ANSWER_NO_DESTINATION = 49,
+    LOURAVELA_ANSWER_PATHWAY_BLOCKED = 50,
+    LOURAVELA_ANSWER_COLLIDED = 51,
+    LOURAVELA_ANSWER_OPENED_BY_DESTINATION = 52,
+    LOURAVELA_ANSWER_OPENED_BY_OTHER = 53,
+    LOURAVELA_ANSWER_BAD_DESTINATION = 64,
+    LOURAVELA_ANSWER_RATE = 65,
+    LOURAVELA_ANSWER_PROTOCOL = 66,
+    LOURAVELA_ANSWER_STP_BUSY = 67,
+    LOURAVELA_ANSWER_WRONG_DESTINATION = 68,
+    LOURAVELA_ANSWER_OPEN_TIMEOUT = 69,
+    LOURAVELA_ANSWER_BREAK_RECEIVED = 70,
+    LOURAVELA_ANSWER_PORT_LAYER_REQUEST = 71,
+    LOURAVELA_ANSWER_TERMINATED = 80
+};
+
+/* Notices; 0 says that there is none. */
+enum {
+    LOURAVELA_NOTICE_OPENED = 1,
+    LOURAVELA_NOTICE_CLOSED_NORMAL = 2,
+    LOURAVELA_NOTICE_CLOSE_TIMEOUT = 3,
+    LOURAVELA_NOTICE_BREAK_REQUESTED = 4,
+    LOURAVELA_NOTICE_BREAK_RECEIVED = 5,
+    LOURAVELA_NOTICE_TRANSITION_TO_IDLE = 6,
+    LOURAVELA_NOTICE_RESET = 7
+};
+
+/* Primitives sent; 0 says that none is. */
+enum {
+    LOURAVELA_SENT_OPEN = 1,
+    LOURAVELA_SENT_OPEN_ACCEPT = 2,
+    LOURAVELA_SENT_OPEN_REJECT = 3,
+    LOURAVELA_SENT_CLOSE = 4,
+    LOURAVELA_SENT_BREAK = 5
+};
+
+/* The six arguments of a Tx Open. */
+struct louravela_open {
+    uint64_t destination;
+    uint64_t protocol;
+    uint64_t rate;
+    uint64_t tag;
+    uint64_t blocked;
+    uint64_t wait;
+};
+
+/* A phy. A field that its state does not use is zero. */
+struct louravela_phy {
+    uint64_t link;
+    uint64_t port;
+    uint64_t timer;                /* ticks left, 1 to 1,000, in L1, L4 and L5 */
+    struct louravela_open request; /* in P2 and P4, its wait as it has grown */
+    uint64_t reason;               /* in P4: the answer that it is waiting to give */
+    uint64_t source;               /* in L2: who opens us */
+    uint64_t inbound;              /* in L2: and by which protocol */
+    uint64_t connection;           /* in P3: the connection's protocol */
+    uint64_t closed;               /* a flag, in L3: the far end has closed */
+    uint64_t accept;               /* a flag: inbound opens are accepted */
+};
+
+/* An event: its code and its arguments in order; those that it lacks are zero. */
+struct louravela_event {
+    uint64_t code;
+    uint64_t first;
+    uint64_t second;
+    uint64_t third;
+    uint64_t fourth;
+    uint64_t fifth;
+    uint64_t sixth;
+};
+
+/* What a step gives. */
+struct louravela_stepped {
+    struct louravela_phy next;
+    struct louravela_open answered; /* the arguments of the Open that is answered; zero without an answer */
+    uint64_t answer;
+    uint64_t notice;
+    uint64_t sent;
+    uint64_t refusal;               /* 0 to 6 */
+};
+
+/* How a run stopped. */
+enum {
+    LOURAVELA_STOPPED_AT_END = 0,
+    LOURAVELA_STOPPED_AT_BUDGET = 1,
+    LOURAVELA_STOPPED_AT_FAULT = 2
+};
+
+/* What a run gives. Refused, it took nothing, and all but the phy is zero. */
+struct louravela_ran {
+    struct louravela_phy next;
+    size_t count;     /* events taken; a refused event counts as taken */
+    uint64_t how;
+    uint64_t fault;   /* stopped at a fault: its number, 2, 7, 8 or 9, else 0 */
+    size_t place;     /* and the place of the event's first byte, else 0 */
+    uint64_t refusal; /* 0, 1 or 10 */
+};
+
+/* A fresh phy: idle, opens rejected. */
+struct louravela_phy louravela_phy_fresh(void);
+
+/* One event. */
+struct louravela_stepped louravela_phy_step(struct louravela_phy phy, struct louravela_event event);
+
+/*
+ * The events of a trace, until it ends, `budget` events are taken, or it has a fault, looked for in
+ * that order. For each event taken one byte of the buffer is written: its refusal, or else its answer,
+ * or else 0. Later bytes keep their values. A buffer shorter than the budget is refused with 10.
+ */
+struct louravela_ran louravela_phy_run(struct louravela_phy phy, const uint8_t *trace, size_t trace_length,
+                                       size_t budget, uint8_t *buffer, size_t buffer_length);
+
+/* ---- Events of a trace ---- */
+
+/* What stands at a place. */
+enum {
+    LOURAVELA_FOUND_EVENT = 0,
+    LOURAVELA_FOUND_END = 1,
+    LOURAVELA_FOUND_FAULT = 2
+};
+
+/* At the end and on a fault the event is zero and `next` is the place given. */
+struct louravela_event_found {
+    struct louravela_event event;
+    size_t next;      /* the place after the event */
+    uint64_t how;
+    uint64_t refusal; /* on a fault its number, 2, 7, 8 or 9, else 0 */
+};
+
+struct louravela_event_written {
+    size_t length;    /* bytes written; refused, 0 */
+    uint64_t refusal; /* 0, 2 or 10 */
+};
+
+/* The event at any place; at the trace's end or past it the trace has ended. */
+struct louravela_event_found louravela_event_read(const uint8_t *trace, size_t trace_length, size_t place);
+
+/* An event's bytes at a place of a buffer. Refused, no byte is changed. */
+struct louravela_event_written louravela_event_write(struct louravela_event event, uint8_t *buffer, size_t buffer_length,
+                                                     size_t place);
+
+/* ---- Numbers of a trace: groups of seven bits, lowest first, the high bit set if another follows ---- */
+
+/* On a fault the value is 0 and `next` is the place given. */
+struct louravela_number_found {
+    uint64_t value;
+    size_t next;      /* the place after the number */
+    uint64_t refusal; /* 0, 7, 8 or 9 */
+};
+
+struct louravela_number_written {
+    size_t length;    /* bytes written, 1 to 10; refused, 0 */
+    uint64_t refusal; /* 0 or 10 */
+};
+
+/* The number at any place; at the end or past it, it is cut. */
+struct louravela_number_found louravela_number_read(const uint8_t *bytes, size_t length, size_t place);
+
+/* A value's bytes at a place of a buffer. Refused, no byte is changed. */
+struct louravela_number_written louravela_number_write(uint64_t value, uint8_t *buffer, size_t buffer_length,
+                                                       size_t place);
+
+/* ---- Dword synchronization: states 0 to 9 ---- */
+
+enum {
+    LOURAVELA_DWS_INVALID = 0,   /* an invalid dword */
+    LOURAVELA_DWS_DATA = 1,      /* a valid data dword */
+    LOURAVELA_DWS_PRIMITIVE = 2, /* a valid primitive */
+    LOURAVELA_DWS_RESTART = 3
+};
+
+/* Reports; 0 says that there is none. */
+enum {
+    LOURAVELA_DWS_ACQUIRED = 1,
+    LOURAVELA_DWS_LOST = 2
+};
+
+struct louravela_dws_stepped {
+    uint64_t state;
+    uint64_t report;
+    uint64_t refusal; /* 0, 1 or 2 */
+};
+
+/* The fresh state, 0. */
+uint64_t louravela_dws_fresh(void);
+
+struct louravela_dws_stepped louravela_dws_step(uint64_t state, uint64_t event);
+
+/* ---- Identification ---- */
+
+/* States of the receiver. */
+enum {
+    LOURAVELA_RECEIVER_IDLE = 0,
+    LOURAVELA_RECEIVER_RECEIVING = 1,
+    LOURAVELA_RECEIVER_SPOILED = 2,
+    LOURAVELA_RECEIVER_COMPLETED = 3
+};
+
+/* Codes of events. The argument is 0 where none is named. */
+enum {
+    LOURAVELA_IDENTIFY_SOAF = 0,
+    LOURAVELA_IDENTIFY_DATA_DWORD = 1, /* the dword, frame byte 0 highest */
+    LOURAVELA_IDENTIFY_EOAF = 2,       /* 1 where the CRC was good, else 0 */
+    LOURAVELA_IDENTIFY_HARD_RESET = 3,
+    LOURAVELA_IDENTIFY_OTHER_PRIMITIVE = 4,
+    LOURAVELA_IDENTIFY_OWN_FRAME_SENT = 5,
+    LOURAVELA_IDENTIFY_TICK = 6,
+    LOURAVELA_IDENTIFY_ENABLE = 7
+};
+
+/* Reports; 0 says that there is none. From Complete on they are outcomes too. */
+enum {
+    LOURAVELA_IDENTIFY_FAILED = 1,
+    LOURAVELA_IDENTIFY_COMPLETE = 2,
+    LOURAVELA_IDENTIFY_TIME_OUT = 3,
+    LOURAVELA_IDENTIFY_RESET_RECEIVED = 4
+};
+
+struct louravela_identify {
+    uint64_t receiver;
+    uint64_t count;   /* data dwords, 0 to 8, while Receiving */
+    uint64_t timer;   /* ticks left, 1 to 1,000, while the other side's frame is awaited */
+    uint64_t outcome; /* 0, or a report from Complete on */
+    uint64_t typed;   /* a flag: the frame's type is Identify */
+    uint64_t got;     /* a flag: an identify frame was got */
+    uint64_t sent;    /* a flag: our own frame was sent */
+};
+
+struct louravela_identify_stepped {
+    struct louravela_identify next;
+    uint64_t report;
+    uint64_t refusal; /* 0, 1 or 2 */
+};
+
+/* The fresh state: Idle, all else unset. */
+struct louravela_identify louravela_identify_fresh(void);
+
+struct louravela_identify_stepped louravela_identify_step(struct louravela_identify state, uint64_t event,
+                                                          uint64_t argument);
+
+#ifdef __cplusplus
+}
+#endif
+
+#endif
