@@ -1,5 +1,5 @@
 -- What each function promises, cited by its `ensures` and, of the public ones, by the theorem that two results it allows coincide.
-use Prim.Native.Nat.{ℕ}
+use Prim.Native.Nat.{ℕ, _≤_, _<_}
 use mathlib.Core.Bool.{false}
 use mathlib.Core.List.{List}
 use mathlib.Core.Path.{_≡_}
@@ -8,6 +8,12 @@ use Rattle.number.specs.Reading.{lastGroup, readNumber, tells}
 use Rattle.number.specs.Writing.{numberBytes, writeNumber, bufferAfter, tellsWritten}
 use Rattle.number.specs.declared.NumberRead.{NumberRead}
 use Rattle.number.specs.declared.NumberWritten.{NumberWritten}
+
+-- `fewer` of two numbers
+pub record Fewer (a b r : ℕ) : Type 0 where
+  pub first : r ≤ a
+  pub second : r ≤ b
+  pub one : r < a → b ≤ r
 
 -- `read_number` of the slice s at a place
 abbrev pub ReadsNumber : List ℕ → ℕ → NumberRead → Type 0

@@ -1,13 +1,13 @@
 // Numbers of a trace: groups of seven bits, lowest first, the high bit set if another follows.
 // Reading takes the one shortest form alone; writing gives it.
 ghost use mathlib.Core.Path.{_≡_};
-ghost use Rattle.number.specs.Contracts.{EndsNumber, ReadsNumber, CountsBytes, WritesNumber};
+ghost use Rattle.number.specs.Contracts.{Fewer, EndsNumber, ReadsNumber, CountsBytes, WritesNumber};
 
 // A group's weight against the one before it; as a byte, the high bit, set where another follows.
 const HIGH: u64 = 128;
 
-// A number has at most this many groups after its first.
-const MOST_LATER: usize = 9;
+// Between its first group and a tenth a number has at most this many.
+const MOST_BETWEEN: usize = 8;
 
 // What stands at a place: a value and the place after it, or why there is none.
 pub enum NumberRead {
@@ -33,6 +33,12 @@ fn last_group(group: u64, value: u64, next: usize) -> NumberRead
     NumberRead::Value { value, next }
 }
 
+fn fewer(a: usize, b: usize) -> usize
+    ensures { λ r. ⌜ Fewer a b r ⌝ }
+{
+    if a < b { a } else { b }
+}
+
 // The number at a place of a slice; any place is taken, and past the end a number is cut.
 pub fn read_number(s: &[u8], place: usize) -> NumberRead
     ensures { λ r. ⌜ ReadsNumber (now (s .entry)) place r ⌝ }
@@ -46,15 +52,14 @@ pub fn read_number(s: &[u8], place: usize) -> NumberRead
     if first < HIGH {
         return NumberRead::Value { value: first, next };
     }
-    let tenth = place + MOST_LATER;
+    // The bytes before a tenth that there are, so that one test a byte is enough.
+    let mut left = fewer(s.len() - next, MOST_BETWEEN);
     let mut value = first - HIGH;
     let mut weight = HIGH;
-    while next < tenth {
-        if s.len() <= next {
-            return NumberRead::Cut;
-        }
+    while 0 < left {
         let b = s[next] as u64;
         next += 1;
+        left -= 1;
         if b < HIGH {
             return last_group(b, b * weight + value, next);
         }

@@ -90,9 +90,13 @@ validConnection port connection = split (eqb port P3) (leb connection STP) (eqb 
 abbrev pub validClosed : (link : ℕ) (closed : Bool) → Bool
 validClosed link closed = eqb link L3 || not closed
 
+-- every rule holds of a phy in a state of the port
+abbrev pub validIn : (port : ℕ) → Phy → Bool
+validIn port p =
+    validPair (p .link) port && validTimer (p .link) (p .timer) && validRequest port (p .request)
+    && validReason (p .link) port (p .reason) && validInbound (p .link) (p .source) (p .inbound)
+    && validConnection port (p .connection) && validClosed (p .link) (p .closed)
+
 -- every rule holds
 unfoldable pub validOf : Phy → Bool
-validOf p =
-    validPair (p .link) (p .port) && validTimer (p .link) (p .timer) && validRequest (p .port) (p .request)
-    && validReason (p .link) (p .port) (p .reason) && validInbound (p .link) (p .source) (p .inbound)
-    && validConnection (p .port) (p .connection) && validClosed (p .link) (p .closed)
+validOf p = validIn (p .port) p

@@ -1,6 +1,9 @@
 // The fresh phy, and which records are valid.
 ghost use mathlib.Core.Path.{_≡_};
-ghost use Rattle.phy.specs.State.{isNoOpen};
+ghost use mathlib.Core.Bool.{_&&_};
+ghost use lib.Dec.{eqb, leb};
+ghost use Rattle.phy.specs.Names.{P1 as Names·P1, P2 as Names·P2, P3 as Names·P3, P4 as Names·P4, fullTimer};
+ghost use Rattle.phy.specs.State.{isNoOpen, validIn};
 ghost use Rattle.phy.specs.Contracts.{StartsFresh, TellsValid};
 use crate::Phy;
 use crate::Settings;
@@ -63,33 +66,127 @@ fn is_no_open(o: Open) -> bool
         & (o.wait == 0)
 }
 
-// One test for each rule, in the paper's order: a field in use is in its range, one not in use is zero.
-// Any 64-bit number is a source. No branches, so that all tests are made at once.
+// The timer of L1, L4 and L5.
+fn runs(timer: u64) -> bool
+    ensures { λ r. ⌜ r ≡ (leb 1 timer && leb timer fullTimer) ⌝ }
+{
+    (1 <= timer) & (timer <= FULL_TIMER)
+}
+
+// Neither a source nor an inbound protocol is kept.
+fn nobody(p: Phy) -> bool
+    ensures { λ r. ⌜ r ≡ (eqb (p .source) 0 && eqb (p .inbound) 0) ⌝ }
+{
+    (p.source == 0) & (p.inbound == 0)
+}
+
+// P1, with each link state that it goes with: one test for each rule, in the paper's order. What the pair
+// settles is not tested again, and no test branches, so that those of a pair are made at once.
+fn valid_idle(p: Phy) -> bool
+    ensures { λ r. ⌜ r ≡ validIn Names·P1 p ⌝ }
+{
+    let link = p.link;
+    let request = p.request;
+    let unused = (p.timer == 0) & is_no_open(request) & (p.reason == 0);
+    match link {
+        L0 => unused & nobody(p) & (p.connection == 0) & !p.closed,
+        L2 => unused & (p.inbound <= STP) & (p.connection == 0) & !p.closed,
+        L6 => unused & nobody(p) & (p.connection == 0) & !p.closed,
+        _ => false,
+    }
+}
+
+fn valid_requesting(p: Phy) -> bool
+    ensures { λ r. ⌜ r ≡ validIn Names·P2 p ⌝ }
+{
+    let link = p.link;
+    let request = p.request;
+    let timer = p.timer;
+    let asked = open_known(request);
+    match link {
+        L1 => runs(timer) & asked & (p.reason == 0) & nobody(p) & (p.connection == 0) & !p.closed,
+        L2 => {
+            (timer == 0)
+                & asked
+                & (p.reason == 0)
+                & (p.inbound <= STP)
+                & (p.connection == 0)
+                & !p.closed
+        }
+        L6 => (timer == 0) & asked & (p.reason == 0) & nobody(p) & (p.connection == 0) & !p.closed,
+        _ => false,
+    }
+}
+
+fn valid_connected(p: Phy) -> bool
+    ensures { λ r. ⌜ r ≡ validIn Names·P3 p ⌝ }
+{
+    let link = p.link;
+    let request = p.request;
+    let timer = p.timer;
+    let unused = is_no_open(request);
+    match link {
+        L3 => (timer == 0) & unused & (p.reason == 0) & nobody(p) & (p.connection <= STP),
+        L4 => runs(timer)
+            & unused
+            & (p.reason == 0)
+            & nobody(p)
+            & (p.connection <= STP)
+            & !p.closed,
+        L5 => runs(timer)
+            & unused
+            & (p.reason == 0)
+            & nobody(p)
+            & (p.connection <= STP)
+            & !p.closed,
+        L6 => (timer == 0)
+            & unused
+            & (p.reason == 0)
+            & nobody(p)
+            & (p.connection <= STP)
+            & !p.closed,
+        _ => false,
+    }
+}
+
+fn valid_closing(p: Phy) -> bool
+    ensures { λ r. ⌜ r ≡ validIn Names·P4 p ⌝ }
+{
+    let link = p.link;
+    let request = p.request;
+    let timer = p.timer;
+    let reason = p.reason;
+    let asked = open_known(request);
+    match link {
+        L5 => {
+            runs(timer)
+                & asked
+                & ((reason == OPEN_TIMEOUT) | (reason == PORT_LAYER_REQUEST))
+                & nobody(p)
+                & (p.connection == 0)
+                & !p.closed
+        }
+        L6 => {
+            (timer == 0)
+                & asked
+                & (reason == OPEN_BROKEN)
+                & nobody(p)
+                & (p.connection == 0)
+                & !p.closed
+        }
+        _ => false,
+    }
+}
+
 pub fn valid(p: Phy) -> bool
     ensures { λ r. ⌜ TellsValid p r ⌝ }
 {
-    let link = p.link;
     let port = p.port;
-    let timer = p.timer;
-    let request = p.request;
-    let reason = p.reason;
-    let source = p.source;
-    let inbound = p.inbound;
-    let connection = p.connection;
-    let pair = ((port == P1) & ((link == L0) | (link == L2) | (link == L6)))
-        | ((port == P2) & ((link == L1) | (link == L2) | (link == L6)))
-        | ((port == P3) & ((link == L3) | (link == L4) | (link == L5) | (link == L6)))
-        | ((port == P4) & ((link == L5) | (link == L6)));
-    let timed = (link == L1) | (link == L4) | (link == L5);
-    let asked = (port == P2) | (port == P4);
-    pair
-        & ((timed & ((1 <= timer) & (timer <= FULL_TIMER))) | (!timed & (timer == 0)))
-        & ((asked & open_known(request)) | (!asked & is_no_open(request)))
-        & (((port == P4)
-            & (((link == L6) & (reason == OPEN_BROKEN))
-                | ((link == L5) & ((reason == OPEN_TIMEOUT) | (reason == PORT_LAYER_REQUEST)))))
-            | (!(port == P4) & (reason == 0)))
-        & (((link == L2) & (inbound <= STP)) | (!(link == L2) & ((source == 0) & (inbound == 0))))
-        & (((port == P3) & (connection <= STP)) | (!(port == P3) & (connection == 0)))
-        & ((link == L3) | !p.closed)
+    match port {
+        P1 => valid_idle(p),
+        P2 => valid_requesting(p),
+        P3 => valid_connected(p),
+        P4 => valid_closing(p),
+        _ => false,
+    }
 }

@@ -1,50 +1,51 @@
 -- `number::read_number` meets its contract: each turn takes one group off the definition, and the groups passed stay below their weight.
-use Prim.Native.Nat.{_-_}
-use native.Mathlib.Omega.{arith}
+use Prim.Native.Nat.{ℕ, _+_, _≤_, _<_}
+use mathlib.Core.List.{List}
 use mathlib.Core.Path.{sym, _∙_}
+use native.Mathlib.Omega.{arith}
+use lib.ListN.{length}
+use Rattle.number.specs.Reading.{mostLater}
 use Rattle.number.proofs.Loops.{Passed, first-cut, first-last, passed-start, passed-cut, last-fits, more-fits, weight-fits, passed-on, passed-last, tenth-fits, tenth-large, tenth-last}
 use Rattle.number.proofs.read_number.Statement.{statement}
 use Rattle.number.proofs.read_number.Tie as tie
 
+-- where the bytes before a tenth end: at the tenth, or with the slice
+record Ends (s : List ℕ) (place end : ℕ) : Type 0 where
+  inside : end ≤ length s
+  before : end ≤ place + mostLater
+  tenth : end < length s → place + mostLater ≤ end
+
 abbrev Inv-loop : tie.InvT-loop
-Inv-loop s place first next₀ tenth value₀ weight₀ next value weight = Passed s place next value weight
+Inv-loop s place first next₀ left₀ value₀ weight₀ next left value weight = Passed s place next value weight × Ends s place (next + left)
 
 abbrev μ-loop : tie.MeasureT-loop
-μ-loop s place first next₀ tenth value₀ weight₀ next value weight = tenth - next
+μ-loop s place first next₀ left₀ value₀ weight₀ next left value weight = left
 
 loop-holds : tie.Need-loop-holds Inv-loop μ-loop
-loop-holds c = passed-start _ _ (omega arith) (c .if2 .left) (c .before .shared-slice-known2 .given _ .fits)
+loop-holds c =
+    let f = c .fewer .ensures in (
+      passed-start _ _ (omega arith) (c .before .if2 .left) (c .before .before .shared-slice-known2 .given _ .fits),
+      record { inside = omega (arith, f .first); before = omega (arith, f .second); tenth = λ h. omega (arith, f .one (omega arith)) },
+    )
 
-mul-last-group : tie.Need-mul-last-group Inv-loop μ-loop
-mul-last-group c = omega (arith, last-fits (c .before .before .before .before .loop .inv) (c .before .before .before .loop-test .taken) (c .if4 .taken))
-
-add-last-group : tie.Need-add-last-group Inv-loop μ-loop
-add-last-group c = omega (arith, last-fits (c .before .before .before .before .loop .inv) (c .before .before .before .loop-test .taken) (c .if4 .taken))
-
-returns-4 : tie.Need-returns-4 Inv-loop μ-loop
-returns-4 c =
+returns-3 : tie.Need-returns-3 Inv-loop μ-loop
+returns-3 c =
+    let e = c .before .before .before .before .loop .inv .1 in
     c .last-group .ensures
-    ∙ sym (passed-last (c .before .before .before .before .before .loop .inv) (c .before .before .before .before .loop-test .taken) (c .before .before .before .if3 .left) (c .before .if4 .taken))
-
-mul-value : tie.Need-mul-value Inv-loop μ-loop
-mul-value c = omega (arith, more-fits (c .before .before .before .before .loop .inv) (c .before .before .before .loop-test .taken) (c .before .shared-slice-known3 .given _ .fits))
-
-add-value : tie.Need-add-value Inv-loop μ-loop
-add-value c = omega (arith, more-fits (c .before .before .before .before .loop .inv) (c .before .before .before .loop-test .taken) (c .before .shared-slice-known3 .given _ .fits))
+    ∙ sym (passed-last (c .before .before .before .before .loop .inv .0) (omega (arith, e .before)) (omega (arith, e .inside)) (c .before .if3 .taken))
 
 loop-again : tie.Need-loop-again Inv-loop μ-loop
-loop-again c = passed-on (c .before .before .before .before .loop .inv) (c .before .before .before .loop-test .taken) (c .before .before .if3 .left) (c .if4 .left) (c .before .shared-slice-known3 .given _ .fits)
+loop-again c =
+    let e = c .before .before .before .loop .inv .1 in (
+      passed-on (c .before .before .before .loop .inv .0) (omega (arith, e .before)) (omega (arith, e .inside)) (c .if3 .left) (c .before .shared-slice-known3 .given _ .fits),
+      record { inside = omega (arith, e .inside); before = omega (arith, e .before); tenth = λ h. omega (arith, e .tenth (omega arith)) },
+    )
 
-mul-last-group-2 : tie.Need-mul-last-group-2 Inv-loop μ-loop
-mul-last-group-2 c = omega (arith, tenth-fits (c .before .before .before .before .loop .inv) (c .before .before .before .loop-test .left) (c .before .before .if5 .left) (c .if6 .left))
-
-add-last-group-2 : tie.Need-add-last-group-2 Inv-loop μ-loop
-add-last-group-2 c = omega (arith, tenth-fits (c .before .before .before .before .loop .inv) (c .before .before .before .loop-test .left) (c .before .before .if5 .left) (c .if6 .left))
-
-returns-7 : tie.Need-returns-7 Inv-loop μ-loop
-returns-7 c =
+returns-6 : tie.Need-returns-6 Inv-loop μ-loop
+returns-6 c =
     c .last-group2 .ensures
-    ∙ sym (tenth-last (c .before .before .before .before .before .loop .inv) (c .before .before .before .before .loop-test .left) (c .before .before .before .if5 .left) (c .before .if6 .left))
+    ∙ sym
+    (tenth-last (c .before .before .before .before .before .loop .inv .0) (omega (arith, c .before .before .before .before .before .loop .inv .1 .tenth (omega arith))) (omega arith) (c .before .if5 .left))
 
 pub read-number-spec : {M : Type 1} → statement M
 read-number-spec =
@@ -58,26 +59,27 @@ read-number-spec =
     (λ c. omega arith)
     (λ c. sym (first-last _ _ (omega arith) (c .if2 .taken)))
     (λ c. omega arith)
-    loop-holds
-    (λ c. sym (passed-cut (c .before .before .loop .inv) (c .if3 .taken)))
-    (λ c. omega arith)
-    (λ c. omega (arith, c .shared-slice-known3 .given (c .before .before .before .loop .next)))
-    (λ c. omega arith)
-    mul-last-group
-    add-last-group
     (λ _ _. tt)
-    returns-4
-    mul-value
-    add-value
-    (λ c. omega (arith, weight-fits (c .before .before .before .before .loop .inv) (c .before .before .before .loop-test .taken)))
+    loop-holds
+    (λ c. omega (arith, c .before .before .loop .inv .1 .inside))
+    (λ c. omega (arith, c .shared-slice-known3 .given (c .before .before .loop .next)))
+    (λ c. omega (arith, c .before .before .loop .inv .1 .inside))
+    (λ c. omega arith)
+    (λ c. omega (arith, last-fits (c .before .before .before .loop .inv .0) (omega (arith, c .before .before .before .loop .inv .1 .before)) (c .if3 .taken)))
+    (λ c. omega (arith, last-fits (c .before .before .before .loop .inv .0) (omega (arith, c .before .before .before .loop .inv .1 .before)) (c .if3 .taken)))
+    (λ _ _. tt)
+    returns-3
+    (λ c. omega (arith, more-fits (c .before .before .before .loop .inv .0) (omega (arith, c .before .before .before .loop .inv .1 .before)) (c .before .shared-slice-known3 .given _ .fits)))
+    (λ c. omega (arith, more-fits (c .before .before .before .loop .inv .0) (omega (arith, c .before .before .before .loop .inv .1 .before)) (c .before .shared-slice-known3 .given _ .fits)))
+    (λ c. omega (arith, weight-fits (c .before .before .before .loop .inv .0) (omega (arith, c .before .before .before .loop .inv .1 .before))))
     (λ c. omega arith)
     loop-again
-    (λ c. sym (passed-cut (c .before .before .loop .inv) (c .if5 .taken)))
+    (λ c. sym (passed-cut (c .before .before .loop .inv .0) (c .if4 .taken)))
     (λ c. omega arith)
     (λ c. omega (arith, c .shared-slice-known4 .given (c .before .before .before .loop .next)))
-    (λ c. sym (tenth-large (c .before .before .before .before .loop .inv) (c .before .before .before .loop-test .left) (c .before .before .if5 .left) (c .if6 .taken)))
-    mul-last-group-2
-    add-last-group-2
+    (λ c. sym (tenth-large (c .before .before .before .before .loop .inv .0) (omega (arith, c .before .before .before .before .loop .inv .1 .tenth (omega arith))) (omega arith) (c .if5 .taken)))
+    (λ c. omega (arith, tenth-fits (c .before .before .before .before .loop .inv .0) (omega (arith, c .before .before .before .before .loop .inv .1 .tenth (omega arith))) (omega arith) (c .if5 .left)))
+    (λ c. omega (arith, tenth-fits (c .before .before .before .before .loop .inv .0) (omega (arith, c .before .before .before .before .loop .inv .1 .tenth (omega arith))) (omega arith) (c .if5 .left)))
     (λ c. omega arith)
     (λ _ _. tt)
-    returns-7)
+    returns-6)

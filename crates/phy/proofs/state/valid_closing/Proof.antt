@@ -1,0 +1,19 @@
+-- `phy::state::valid_closing` meets its contract: at each pair the other rules are the definition's, and at no other pair do they hold.
+use mathlib.Core.Bool.{or-false}
+use borrow.Author.Tests.{ne-eqb}
+use Rattle.phy.specs.State.{validInbound, validRequest}
+use Rattle.phy.proofs.state.valid_closing.Statement.{statement}
+use Rattle.phy.proofs.state.valid_closing.Tie as tie
+
+pub valid-closing-spec : {M : Type 1} → statement M
+unfolding validInbound validRequest
+valid-closing-spec =
+    tie.close
+    (tie.spec
+    (λ _ _. tt)
+    (λ _ _. tt)
+    (λ _ _. tt)
+    (λ _ _. tt)
+    (λ c. simp (c .before .before .nobody .ensures, c .before .before .before .runs .ensures, c .before .before .before .before .before .open-known .ensures, c .before .before .before .before .match .keys1, or-false))
+    (λ c. simp (c .before .before .nobody2 .ensures, c .before .before .before .before .open-known .ensures, c .before .before .before .match .keys2, or-false))
+    (λ c. simp (ne-eqb (c .before .before .before .args .p .link) 5 (c .match .rest .0 .1), ne-eqb (c .before .before .before .args .p .link) 6 (c .match .rest .1))))

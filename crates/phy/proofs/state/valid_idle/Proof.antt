@@ -1,0 +1,20 @@
+-- `phy::state::valid_idle` meets its contract: at each pair the other rules are the definition's, and at no other pair do they hold.
+use mathlib.Core.Bool.{or-false}
+use native.Mathlib.Omega.{arith}
+use borrow.Author.Tests.{le-leb, ne-eqb}
+use Rattle.phy.specs.State.{validInbound, validRequest}
+use Rattle.phy.proofs.state.valid_idle.Statement.{statement}
+use Rattle.phy.proofs.state.valid_idle.Tie as tie
+
+pub valid-idle-spec : {M : Type 1} → statement M
+unfolding validInbound validRequest
+valid-idle-spec =
+    tie.close
+    (tie.spec
+    (λ _ _. tt)
+    (λ _ _. tt)
+    (λ _ _. tt)
+    (λ c. simp (c .before .before .nobody .ensures, c .before .before .before .before .before .is-no-open .ensures, c .before .before .before .match .keys1))
+    (λ c. simp (c .before .before .before .before .before .is-no-open .ensures, c .before .before .before .match .keys2, le-leb (c .before .before .before .before .before .before .before .before .args .p .source) 18446744073709551615 (omega arith), or-false))
+    (λ c. simp (c .before .before .nobody2 .ensures, c .before .before .before .before .before .is-no-open .ensures, c .before .before .before .match .keys3))
+    (λ c. simp (ne-eqb (c .before .before .before .before .before .args .p .link) 0 (c .match .rest .0 .0 .1), ne-eqb (c .before .before .before .before .before .args .p .link) 2 (c .match .rest .0 .1), ne-eqb (c .before .before .before .before .before .args .p .link) 6 (c .match .rest .1))))
