@@ -8,10 +8,15 @@ ghost use Rattle.output.specs.Decimal.{decimal};
 ghost use Rattle.listing.specs.Text.{mostLine, Holds};
 ghost use Rattle.listing.specs.Contracts.{Adds};
 
-// The first `length` bytes are the text. It has room for the longest line: eight numbers of twenty
-// digits, each with the byte after it.
+// A 64-bit number has at most this many digits.
+const MOST_DIGITS: usize = 20;
+
+// The longest line: eight numbers, each with the byte after it.
+const MOST_LINE: usize = 168;
+
+// The first `length` bytes are the text.
 pub struct Text {
-    pub bytes: [u8; 168],
+    pub bytes: [u8; MOST_LINE],
     pub length: usize,
 }
 
@@ -20,7 +25,7 @@ pub fn empty() -> Text
     ensures { λ r. ⌜ Holds r [] ⌝ }
 {
     Text {
-        bytes: [0; 168],
+        bytes: [0; MOST_LINE],
         length: 0,
     }
 }
@@ -58,7 +63,7 @@ pub fn with_number(text: Text, value: u64, after: u8) -> Text
     requires { ⌜ text .length + 21 ≤ mostLine ⌝ }
     ensures { λ r. ⌜ Adds text (decimal value ++ (after ∷ [])) r × (r .length ≤ text .length + 21) ⌝ }
 {
-    let mut digits = [0u8; 20];
+    let mut digits = [0u8; MOST_DIGITS];
     let count = io::decimal(value, &mut digits);
     let number = with_part(text, &digits[..count]);
     let last = [after];

@@ -1,15 +1,15 @@
 -- What is written is read back, by induction over the groups that may follow.
 use Prim.Native.Nat.{ℕ, zero, suc, _+_, _-_, _/_, _%_, _^_, _≤_, _<_}
 use mathlib.Core.Bool.{Bool, true, false, true≢false}
-use mathlib.Core.List.{List, _++_, append-assoc}
+use mathlib.Core.List.{List, _++_}
 use mathlib.Core.Path.{_≡_, refl, ap, _∙_}
 use Rattle.table.proofs.Laws.{by-test, by-order}
 use native.Mathlib.Nat.{add-suc, suc-add}
 use native.Mathlib.Numerals.{add-one}
 use native.Mathlib.Omega.{arith}
 use borrow.Author.Tests.{lt-ltb, le-ltb, leb-true, ne-eqb}
-use lib.ListN.{length, take, drop}
-use lib.Seq.{sets, sets-eq, drop-at, length-take-le}
+use lib.ListN.{length, drop}
+use Rattle.table.proofs.Stores.{stored-from}
 use Rattle.number.specs.Reading.{Told, value, high, mostLater, lastGroup, tenthByte, below, groups, readNumber}
 use Rattle.number.specs.Writing.{wrote, bytesOf, numberBytes, fits, writeNumber, bufferAfter}
 use Rattle.number.specs.Writing as writing
@@ -57,19 +57,13 @@ groups-back (suc later) first place v rest h k =
     (λ l. last-back later first place v rest l k)
     (λ m. more-back later first place v rest m (groups-back later false (suc place) (v / high) rest (omega arith) (λ e. omega arith)))
 
--- what a run of stores leaves from its place on
-stored : (buffer vs : List ℕ) (place : ℕ) → place + length vs ≤ length buffer → drop place (sets buffer place vs) ≡ vs ++ drop (place + length vs) buffer
-stored buffer vs place h =
-    ap (drop place) (sets-eq vs buffer place h ∙ append-assoc (take place buffer) vs (drop (place + length vs) buffer))
-    ∙ drop-at (take place buffer) (vs ++ drop (place + length vs) buffer) place (length-take-le place buffer (omega arith))
-
 -- with room, the buffer from the place on is the bytes of v and then what stood there
 with-room : (v : ℕ) (buffer : List ℕ) (place n : ℕ) → v < 2 ^ 64 → fits v buffer place ≡ true → writeNumber v buffer place ≡ wrote n
     → readNumber (bufferAfter v buffer place) place ≡ value v (place + n)
 unfolding readNumber numberBytes
 with-room v buffer place n h t e =
     let l : length (numberBytes v) ≡ n = wrote-is (rw t at e) in
-    rw (t, stored buffer (numberBytes v) place (leb-true (place + length (numberBytes v)) (length buffer) t), ← l)
+    rw (t, stored-from buffer (numberBytes v) place (leb-true (place + length (numberBytes v)) (length buffer) t), ← l)
     (groups-back mostLater true place v (drop (place + length (numberBytes v)) buffer) h (λ f. absurd (true≢false f)))
 
 pub read-back : ReadBack

@@ -2,19 +2,14 @@
 use Prim.Native.Nat.{ℕ, suc, _+_, _≤_, _<_}
 use mathlib.Core.List.{List, [], _∷_, _++_}
 use mathlib.Core.Path.{_≡_, refl, sym, ap, ap₂, _∙_}
-use native.Mathlib.Nat.{add-zero, suc-add, add-suc}
 use native.Mathlib.Numerals.{add-one}
 use native.Mathlib.Omega.{arith}
-use lib.ListN.{length, drop, getD, set, length-append, drop-of-length-le}
+use lib.ListN.{length, drop, getD, length-append, drop-of-length-le}
 use lib.Seq.{sets, set-out, length-sets, drop-cons}
 use Rattle.table.proofs.Laws.{by-order}
+use Rattle.table.proofs.Stores.{sets-on}
 use Rattle.output.specs.Writing.{further, more, reached, gathered, stillGathered}
 use Rattle.output.specs.Contracts.{Puts, PutsAll, PutsLine}
-
-sets-on : (buffer xs ys : List ℕ) (at : ℕ) → sets buffer at (xs ++ ys) ≡ sets (sets buffer at xs) (at + length xs) ys
-sets-on buffer [] ys at = ap (λ (n : ℕ). sets buffer n ys) (sym (add-zero at))
-sets-on buffer (x ∷ xs) ys at =
-    sets-on (set buffer at x) xs ys (suc at) ∙ ap (λ (n : ℕ). sets (sets (set buffer at x) (suc at) xs) n ys) (suc-add at (length xs) ∙ sym (add-suc at (length xs)))
 
 sets-out : (buffer xs : List ℕ) (at : ℕ) → length buffer ≤ at → sets buffer at xs ≡ buffer
 sets-out buffer [] at h = refl

@@ -1,5 +1,4 @@
 -- Each answer says one thing, so a contract that gives what is said gives the answer.
-use Prim.Native.Nat.{ℕ}
 use mathlib.Core.List.{[], _∷_}
 use mathlib.Core.Path.{_≡_, refl, sym, ap, _∙_}
 use Rattle.table.specs.Choice.{_⇒_, rows}

@@ -7,7 +7,8 @@ use native.Mathlib.Nat.{add-assoc, add-zero}
 use native.Mathlib.Omega.{arith}
 use borrow.Author.Tests.{leb-true}
 use lib.ListN.{length, take, drop, getD, length-append, length-drop}
-use lib.Seq.{sets, sets-eq, take-at, drop-at, length-take-le}
+use lib.Seq.{sets, sets-eq, take-at, length-take-le}
+use Rattle.table.proofs.Stores.{stored-from}
 use Rattle.number.specs.Writing.{numberBytes}
 use Rattle.event.specs.Table.{argumentsOf, argumentCount, knownOf}
 use Rattle.event.specs.declared.Event.{Event}
@@ -80,12 +81,6 @@ module _ (e : Event) (k : knownOf e ≡ true) where
 
 -- ---- in a buffer
 
--- what a run of stores leaves from its place on
-stored : (buffer vs : List ℕ) (place : ℕ) → place + length vs ≤ length buffer → drop place (sets buffer place vs) ≡ vs ++ drop (place + length vs) buffer
-stored buffer vs place h =
-    ap (drop place) (sets-eq vs buffer place h ∙ append-assoc (take place buffer) vs (drop (place + length vs) buffer))
-    ∙ drop-at (take place buffer) (vs ++ drop (place + length vs) buffer) place (length-take-le place buffer (omega arith))
-
 wrote-is : {m n : ℕ} → wrote m ≡ wrote n → m ≡ n
 wrote-is e = cc
 
@@ -107,7 +102,7 @@ pub read-back : ReadBack
 read-back e buffer place n h =
     let w = fitted e buffer place n h in
     rw (w .left, w .long)
-    (event-back e (w .known) (sets buffer place (eventBytes e)) place (drop (place + length (eventBytes e)) buffer) (stored buffer (eventBytes e) place (w .room)))
+    (event-back e (w .known) (sets buffer place (eventBytes e)) place (drop (place + length (eventBytes e)) buffer) (stored-from buffer (eventBytes e) place (w .room)))
 
 pub others-kept : OthersKept
 others-kept e buffer place n h =
@@ -116,7 +111,7 @@ others-kept e buffer place n h =
     rw (w .left, w .long) (
       ap (take place) (sets-eq bytes buffer place (w .room) ∙ append-assoc (take place buffer) bytes (drop (place + length bytes) buffer))
           ∙ take-at (take place buffer) (bytes ++ drop (place + length bytes) buffer) place (length-take-le place buffer (omega arith)),
-      behind (sets buffer place bytes) place bytes (drop (place + length bytes) buffer) (stored buffer bytes place (w .room)),
+      behind (sets buffer place bytes) place bytes (drop (place + length bytes) buffer) (stored-from buffer bytes place (w .room)),
     )
 
 -- ---- whole traces

@@ -1,14 +1,14 @@
 -- The invariants of the writer's loops: the numbers that are left, from here on, give the whole length and the whole buffer.
 use Prim.Native.Nat.{ℕ, suc, _+_, _*_, _^_, _≤_, _<_}
 use mathlib.Core.Bool.{true, false}
-use mathlib.Core.List.{List, [], _∷_, _++_}
+use mathlib.Core.List.{List, [], _++_}
 use mathlib.Core.Path.{_≡_, refl, sym, ap, ap₂, _∙_}
-use native.Mathlib.Nat.{add-suc, suc-add, add-zero}
 use native.Mathlib.Numerals.{add-one}
 use native.Mathlib.Omega.{arith}
 use borrow.Author.Tests.{le-leb, lt-leb}
-use lib.ListN.{length, take, drop, getD, set, length-append, drop-of-length-le}
+use lib.ListN.{length, take, drop, getD, length-append, drop-of-length-le}
 use lib.Seq.{drop-cons, sets, length-sets, getD-take, length-take-le}
+use Rattle.table.proofs.Stores.{sets-on}
 use Rattle.number.specs.Writing.{numberBytes}
 use Rattle.number.specs.Writing as number
 use Rattle.number.specs.Contracts.{WritesNumber}
@@ -75,11 +75,6 @@ module _ {count : ℕ} {numbers : List ℕ} {n i : ℕ} (c : Counted count numbe
   counted-done h = omega (arith, ap length (no-number (c .fine) i h))
 
 -- ---- filling the buffer: those of the numbers left, at `at`, make it what it shall be
-
-sets-on : (buffer xs ys : List ℕ) (at : ℕ) → sets buffer at (xs ++ ys) ≡ sets (sets buffer at xs) (at + length xs) ys
-sets-on buffer [] ys at = ap (λ (n : ℕ). sets buffer n ys) (sym (add-zero at))
-sets-on buffer (x ∷ xs) ys at =
-    sets-on (set buffer at x) xs ys (suc at) ∙ ap (λ (n : ℕ). sets (sets (set buffer at x) (suc at) xs) n ys) (suc-add at (length xs) ∙ sym (add-suc at (length xs)))
 
 pub record Filling (count : ℕ) (numbers before : List ℕ) (place : ℕ) (buffer : List ℕ) (at i : ℕ) : Type 0 where
   pub fine : Sound count numbers
