@@ -12,6 +12,36 @@ use Rattle.dws.specs.declared.Stepped.{Stepped}
 abbrev pub freshState : ℕ
 freshState = acquireSync
 
+-- synchronization is acquired where 3 is entered from 2, and lost where 0 is entered from 8 or 9 by an invalid dword
+unfoldable pub reportOf : (s event next : ℕ) → ℕ
+reportOf s event next =
+    pick (eqb s valid2 && eqb next syncAcquired)
+    acquired
+    (pick (leb lost3 s && eqb next acquireSync && eqb event invalid) lost noReport)
+
+-- a primitive: before synchronization each is one step towards it
+abbrev pub primitiveRows : List (Row ℕ)
+primitiveRows = (acquireSync ⇒ valid1) ∷ (valid1 ⇒ valid2) ∷ (valid2 ⇒ syncAcquired) ∷ []
+
+-- a valid dword of either kind, after synchronization: two in a row take one lost dword off
+abbrev pub validRows : List (Row ℕ)
+validRows =
+    (syncAcquired ⇒ syncAcquired)
+    ∷ (lost1 ⇒ lost1Recovered)
+    ∷ (lost1Recovered ⇒ syncAcquired)
+    ∷ (lost2 ⇒ lost2Recovered)
+    ∷ (lost2Recovered ⇒ lost1)
+    ∷ (lost3 ⇒ lost3Recovered)
+    ∷ (lost3Recovered ⇒ lost2)
+    ∷ []
+
+unfoldable pub afterValid : ℕ → ℕ
+afterValid s = rows s validRows s
+
+-- after synchronization a primitive is a valid dword like any other
+unfoldable pub afterPrimitive : ℕ → ℕ
+afterPrimitive s = rows s primitiveRows (afterValid s)
+
 -- an invalid dword: before synchronization it starts anew, after it one more is lost, and the fourth loses synchronization
 abbrev pub invalidRows : List (Row ℕ)
 invalidRows =
@@ -29,41 +59,12 @@ invalidRows =
 unfoldable pub afterInvalid : ℕ → ℕ
 afterInvalid s = rows s invalidRows s
 
--- a valid dword of either kind, after synchronization: two in a row take one lost dword off
-abbrev pub validRows : List (Row ℕ)
-validRows =
-    (syncAcquired ⇒ syncAcquired)
-    ∷ (lost1 ⇒ lost1Recovered)
-    ∷ (lost1Recovered ⇒ syncAcquired)
-    ∷ (lost2 ⇒ lost2Recovered)
-    ∷ (lost2Recovered ⇒ lost1)
-    ∷ (lost3 ⇒ lost3Recovered)
-    ∷ (lost3Recovered ⇒ lost2)
-    ∷ []
-
-unfoldable pub afterValid : ℕ → ℕ
-afterValid s = rows s validRows s
-
--- a primitive: before synchronization each is one step towards it
-abbrev pub primitiveRows : List (Row ℕ)
-primitiveRows = (acquireSync ⇒ valid1) ∷ (valid1 ⇒ valid2) ∷ (valid2 ⇒ syncAcquired) ∷ []
-
-unfoldable pub afterPrimitive : ℕ → ℕ
-afterPrimitive s = rows s primitiveRows (afterValid s)
-
 -- the next state, by the event
 abbrev pub eventRows : ℕ → List (Row ℕ)
 eventRows s = (invalid ⇒ afterInvalid s) ∷ (dataDword ⇒ afterValid s) ∷ (primitive ⇒ afterPrimitive s) ∷ (restart ⇒ acquireSync) ∷ []
 
 unfoldable pub nextState : ℕ → ℕ → ℕ
 nextState s event = rows event (eventRows s) s
-
--- synchronization is acquired where 3 is entered from 2, and lost where 0 is entered from 8 or 9 by an invalid dword
-unfoldable pub reportOf : (s event next : ℕ) → ℕ
-reportOf s event next =
-    pick (eqb s valid2 && eqb next syncAcquired)
-    acquired
-    (pick (leb lost3 s && eqb next acquireSync && eqb event invalid) lost noReport)
 
 -- a refusal: the state as given and no report
 abbrev pub refused : ℕ → ℕ → Stepped

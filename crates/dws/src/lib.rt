@@ -51,21 +51,17 @@ pub fn fresh() -> u64
     ACQUIRE_SYNC
 }
 
-fn after_invalid(state: u64) -> u64
-    ensures { λ r. ⌜ r ≡ afterInvalid state ⌝ }
+// A restart enters the first state too, and reports nothing.
+fn report_of(state: u64, event: u64, next: u64) -> u8
+    ensures { λ r. ⌜ r ≡ reportOf state event next ⌝ }
 {
-    match state {
-        VALID_1 => ACQUIRE_SYNC,
-        VALID_2 => ACQUIRE_SYNC,
-        SYNC_ACQUIRED => LOST_1,
-        LOST_1 => LOST_2,
-        LOST_1_RECOVERED => LOST_2,
-        LOST_2 => LOST_3,
-        LOST_2_RECOVERED => LOST_3,
-        LOST_3 => ACQUIRE_SYNC,
-        LOST_3_RECOVERED => ACQUIRE_SYNC,
-        _ => state,
+    if (state == VALID_2) & (next == SYNC_ACQUIRED) {
+        return ACQUIRED;
     }
+    if (LOST_3 <= state) & (next == ACQUIRE_SYNC) & (event == INVALID) {
+        return LOST;
+    }
+    NO_REPORT
 }
 
 fn after_valid(state: u64) -> u64
@@ -95,6 +91,23 @@ fn after_primitive(state: u64) -> u64
     }
 }
 
+fn after_invalid(state: u64) -> u64
+    ensures { λ r. ⌜ r ≡ afterInvalid state ⌝ }
+{
+    match state {
+        VALID_1 => ACQUIRE_SYNC,
+        VALID_2 => ACQUIRE_SYNC,
+        SYNC_ACQUIRED => LOST_1,
+        LOST_1 => LOST_2,
+        LOST_1_RECOVERED => LOST_2,
+        LOST_2 => LOST_3,
+        LOST_2_RECOVERED => LOST_3,
+        LOST_3 => ACQUIRE_SYNC,
+        LOST_3_RECOVERED => ACQUIRE_SYNC,
+        _ => state,
+    }
+}
+
 fn next_state(state: u64, event: u64) -> u64
     ensures { λ r. ⌜ r ≡ nextState state event ⌝ }
 {
@@ -105,19 +118,6 @@ fn next_state(state: u64, event: u64) -> u64
         RESTART => ACQUIRE_SYNC,
         _ => state,
     }
-}
-
-// A restart enters the first state too, and reports nothing.
-fn report_of(state: u64, event: u64, next: u64) -> u8
-    ensures { λ r. ⌜ r ≡ reportOf state event next ⌝ }
-{
-    if (state == VALID_2) & (next == SYNC_ACQUIRED) {
-        return ACQUIRED;
-    }
-    if (LOST_3 <= state) & (next == ACQUIRE_SYNC) & (event == INVALID) {
-        return LOST;
-    }
-    NO_REPORT
 }
 
 // Any state and any event: a state above 9 is refused, then an event above 3.
