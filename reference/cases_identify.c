@@ -1,6 +1,6 @@
 #include "cases.h"
 
-#include "identify.h"
+#include "identify_samples.h"
 
 #include <assert.h>
 
@@ -12,33 +12,14 @@ enum {
     FIELD_OUTCOME = 6,
     MOST_STEPS = 1300,
     MOST_STATES = 200,
-    MOST_ITEMS = 14,
     SEEDED_WALKS = 60,
     SEEDED_STEPS = 100
-};
-
-/* Every bit but those of the type, and the type's lowest bit alone. */
-#define TYPE_IDENTIFY UINT64_C(0xF0FFFFFF)
-#define TYPE_OTHER UINT64_C(0x01000000)
-#define DWORD_MOST UINT64_C(0xFFFFFFFF)
-#define DWORD_PAST UINT64_C(0x100000000)
-
-struct identify_event_case {
-    uint64_t event;
-    uint64_t argument;
 };
 
 struct identify_walk {
     struct identify start;
     size_t count;
     struct identify_event_case steps[MOST_STEPS];
-};
-
-/* A script's items end with a repeat of 0. */
-struct script_item {
-    unsigned repeat;
-    uint64_t event;
-    uint64_t argument;
 };
 
 /* ---- Walks ---- */
@@ -168,30 +149,11 @@ static size_t list_valid_states(struct identify states[MOST_STATES])
     return count;
 }
 
-static const struct identify_event_case probes[] = {
-    {IDENTIFY_SOAF, 0}, {IDENTIFY_SOAF, 1}, {IDENTIFY_SOAF, 2}, {IDENTIFY_SOAF, DWORD_PAST},
-    {IDENTIFY_SOAF, UINT64_MAX},
-    {IDENTIFY_DATA_DWORD, 0}, {IDENTIFY_DATA_DWORD, 1}, {IDENTIFY_DATA_DWORD, 2},
-    {IDENTIFY_DATA_DWORD, TYPE_IDENTIFY}, {IDENTIFY_DATA_DWORD, TYPE_OTHER},
-    {IDENTIFY_DATA_DWORD, 0x02000000}, {IDENTIFY_DATA_DWORD, 0x04000000},
-    {IDENTIFY_DATA_DWORD, 0x08000000}, {IDENTIFY_DATA_DWORD, 0x10000000},
-    {IDENTIFY_DATA_DWORD, 0x00800000}, {IDENTIFY_DATA_DWORD, DWORD_MOST},
-    {IDENTIFY_DATA_DWORD, DWORD_PAST}, {IDENTIFY_DATA_DWORD, UINT64_MAX},
-    {IDENTIFY_EOAF, 0}, {IDENTIFY_EOAF, 1}, {IDENTIFY_EOAF, 2}, {IDENTIFY_EOAF, DWORD_PAST + 1},
-    {IDENTIFY_EOAF, UINT64_MAX},
-    {IDENTIFY_HARD_RESET, 0}, {IDENTIFY_HARD_RESET, 1}, {IDENTIFY_HARD_RESET, UINT64_MAX},
-    {IDENTIFY_OTHER_PRIMITIVE, 0}, {IDENTIFY_OTHER_PRIMITIVE, 1}, {IDENTIFY_OTHER_PRIMITIVE, DWORD_PAST},
-    {IDENTIFY_FRAME_SENT, 0}, {IDENTIFY_FRAME_SENT, 1}, {IDENTIFY_FRAME_SENT, UINT64_MAX},
-    {IDENTIFY_TICK, 0}, {IDENTIFY_TICK, 1}, {IDENTIFY_TICK, DWORD_PAST},
-    {IDENTIFY_ENABLE, 0}, {IDENTIFY_ENABLE, 1}, {IDENTIFY_ENABLE, UINT64_MAX},
-    {8, 0}, {8, 1}, {9, 0}, {256 + IDENTIFY_ENABLE, 0}, {DWORD_PAST + IDENTIFY_TICK, 0}, {UINT64_MAX, 0}
-};
-
 static void probe_valid_states(struct case_file *file, const struct identify *states, size_t count)
 {
     for (size_t i = 0; i < count; i++) {
-        for (size_t k = 0; k < sizeof probes / sizeof probes[0]; k++) {
-            single_step(file, states[i], probes[k].event, probes[k].argument);
+        for (size_t k = 0; k < identify_probe_count; k++) {
+            single_step(file, states[i], identify_probes[k].event, identify_probes[k].argument);
         }
     }
 }
@@ -257,67 +219,12 @@ static void judge_raised_fields(struct case_file *file, const struct identify *s
 
 /* ---- Whole frames ---- */
 
-static const struct script_item scripts[][MOST_ITEMS] = {
-    /* Got, then sent; what follows the outcome is ignored, but bad events are still refused. */
-    {{1, IDENTIFY_SOAF, 0}, {8, IDENTIFY_DATA_DWORD, TYPE_IDENTIFY}, {1, IDENTIFY_EOAF, 1},
-     {1, IDENTIFY_HARD_RESET, 0}, {3, IDENTIFY_TICK, 0}, {2, IDENTIFY_FRAME_SENT, 0},
-     {1, IDENTIFY_HARD_RESET, 0}, {1, IDENTIFY_EOAF, 2}, {1, 8, 0}, {1, IDENTIFY_ENABLE, 0}},
-    /* Sent, then got. */
-    {{1, IDENTIFY_FRAME_SENT, 0}, {3, IDENTIFY_TICK, 0}, {1, IDENTIFY_SOAF, 0},
-     {8, IDENTIFY_DATA_DWORD, 0}, {1, IDENTIFY_TICK, 0}, {1, IDENTIFY_EOAF, 1}, {2, IDENTIFY_TICK, 0},
-     {1, IDENTIFY_SOAF, 0}, {1, IDENTIFY_ENABLE, 0}, {1, IDENTIFY_TICK, 0}},
-    /* Nine dwords and a tenth, then a good frame before the EOAF of the spoiled one. */
-    {{1, IDENTIFY_SOAF, 0}, {10, IDENTIFY_DATA_DWORD, 0}, {1, IDENTIFY_HARD_RESET, 0}, {1, IDENTIFY_SOAF, 0},
-     {8, IDENTIFY_DATA_DWORD, 0}, {1, IDENTIFY_EOAF, 1}, {1, IDENTIFY_FRAME_SENT, 0}},
-    /* Nine dwords and the EOAF: one report only, and no frame after it counts. */
-    {{1, IDENTIFY_SOAF, 0}, {9, IDENTIFY_DATA_DWORD, 0}, {2, IDENTIFY_EOAF, 1}, {1, IDENTIFY_SOAF, 0},
-     {8, IDENTIFY_DATA_DWORD, 0}, {1, IDENTIFY_EOAF, 1}, {1, IDENTIFY_FRAME_SENT, 0},
-     {2, IDENTIFY_TICK, 0}, {1, IDENTIFY_HARD_RESET, 0}, {1, IDENTIFY_TICK, 0}},
-    /* Bad CRC. */
-    {{1, IDENTIFY_SOAF, 0}, {8, IDENTIFY_DATA_DWORD, 0}, {1, IDENTIFY_EOAF, 0},
-     {1, IDENTIFY_FRAME_SENT, 0}, {1, IDENTIFY_HARD_RESET, 0}, {1, IDENTIFY_ENABLE, 0}},
-    /* Wrong type in the first dword, right afterwards. */
-    {{1, IDENTIFY_SOAF, 0}, {1, IDENTIFY_DATA_DWORD, TYPE_OTHER}, {7, IDENTIFY_DATA_DWORD, 0},
-     {1, IDENTIFY_EOAF, 1}, {1, IDENTIFY_HARD_RESET, 0}},
-    /* Right type in the first dword, wrong afterwards: the first alone fixes it. */
-    {{1, IDENTIFY_SOAF, 0}, {1, IDENTIFY_DATA_DWORD, 0}, {7, IDENTIFY_DATA_DWORD, DWORD_MOST},
-     {1, IDENTIFY_EOAF, 1}, {1, IDENTIFY_FRAME_SENT, 0}},
-    /* A second SOAF inside starts again, and forgets the type. */
-    {{1, IDENTIFY_SOAF, 0}, {3, IDENTIFY_DATA_DWORD, TYPE_OTHER}, {1, IDENTIFY_SOAF, 0},
-     {8, IDENTIFY_DATA_DWORD, 0}, {1, IDENTIFY_EOAF, 1}, {1, IDENTIFY_FRAME_SENT, 0}},
-    {{1, IDENTIFY_SOAF, 0}, {4, IDENTIFY_DATA_DWORD, 0}, {2, IDENTIFY_SOAF, 0},
-     {4, IDENTIFY_DATA_DWORD, 0}, {1, IDENTIFY_EOAF, 1}},
-    /* HARD_RESET and another primitive inside are ignored. */
-    {{1, IDENTIFY_SOAF, 0}, {1, IDENTIFY_HARD_RESET, 0}, {4, IDENTIFY_DATA_DWORD, 0},
-     {1, IDENTIFY_HARD_RESET, 0}, {1, IDENTIFY_OTHER_PRIMITIVE, 0}, {4, IDENTIFY_DATA_DWORD, 0},
-     {1, IDENTIFY_HARD_RESET, 0}, {1, IDENTIFY_EOAF, 1}, {1, IDENTIFY_FRAME_SENT, 0}},
-    /* HARD_RESET before any frame, fresh and with the timer running; then Enable and a good frame. */
-    {{1, IDENTIFY_HARD_RESET, 0}, {1, IDENTIFY_FRAME_SENT, 0}, {1, IDENTIFY_SOAF, 0},
-     {1, IDENTIFY_ENABLE, 0}, {1, IDENTIFY_FRAME_SENT, 0}, {5, IDENTIFY_TICK, 0},
-     {1, IDENTIFY_HARD_RESET, 0}, {2, IDENTIFY_TICK, 0}, {1, IDENTIFY_ENABLE, 0}, {1, IDENTIFY_SOAF, 0},
-     {8, IDENTIFY_DATA_DWORD, 0}, {1, IDENTIFY_EOAF, 1}, {1, IDENTIFY_FRAME_SENT, 0}},
-    /* Dwords and EOAF without an SOAF. */
-    {{3, IDENTIFY_DATA_DWORD, 0}, {1, IDENTIFY_EOAF, 1}, {1, IDENTIFY_EOAF, 0},
-     {1, IDENTIFY_OTHER_PRIMITIVE, 0}, {1, IDENTIFY_TICK, 0}, {1, IDENTIFY_ENABLE, 0}},
-    /* Time-out at the thousandth tick, in the middle of a frame; a second own frame starts nothing. */
-    {{1, IDENTIFY_FRAME_SENT, 0}, {500, IDENTIFY_TICK, 0}, {1, IDENTIFY_FRAME_SENT, 0},
-     {499, IDENTIFY_TICK, 0}, {1, IDENTIFY_SOAF, 0}, {3, IDENTIFY_DATA_DWORD, 0}, {2, IDENTIFY_TICK, 0},
-     {5, IDENTIFY_DATA_DWORD, 0}, {1, IDENTIFY_EOAF, 1}, {1, IDENTIFY_HARD_RESET, 0},
-     {1, IDENTIFY_ENABLE, 0}},
-    /* Complete just before the thousandth tick. */
-    {{1, IDENTIFY_SOAF, 0}, {1, IDENTIFY_FRAME_SENT, 0}, {999, IDENTIFY_TICK, 0},
-     {8, IDENTIFY_DATA_DWORD, 0}, {1, IDENTIFY_EOAF, 1}, {1, IDENTIFY_TICK, 0}},
-    /* A failed frame does not stop the timer. */
-    {{1, IDENTIFY_FRAME_SENT, 0}, {1, IDENTIFY_SOAF, 0}, {8, IDENTIFY_DATA_DWORD, 0},
-     {1, IDENTIFY_EOAF, 0}, {1001, IDENTIFY_TICK, 0}}
-};
-
-static void play_script(struct case_file *file, const struct script_item items[MOST_ITEMS])
+static void play_script(struct case_file *file, const struct identify_item items[IDENTIFY_SCRIPT_ITEMS])
 {
     struct identify_walk walk;
 
     walk_start(&walk, identify_fresh());
-    for (size_t i = 0; i < MOST_ITEMS && items[i].repeat != 0; i++) {
+    for (size_t i = 0; i < IDENTIFY_SCRIPT_ITEMS && items[i].repeat != 0; i++) {
         for (unsigned k = 0; k < items[i].repeat; k++) {
             walk_add(&walk, items[i].event, items[i].argument);
         }
@@ -442,8 +349,8 @@ void make_identify_cases(struct case_file *file)
     probe_valid_states(file, states, count);
     judge_records(file);
     judge_raised_fields(file, states, count);
-    for (size_t i = 0; i < sizeof scripts / sizeof scripts[0]; i++) {
-        play_script(file, scripts[i]);
+    for (size_t i = 0; i < identify_script_count; i++) {
+        play_script(file, identify_scripts[i]);
     }
     frames_of_every_length(file);
     for (int i = 0; i < SEEDED_WALKS; i++) {

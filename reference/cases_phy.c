@@ -1,103 +1,16 @@
 #include "cases.h"
 
 #include "phy_fields.h"
-#include "phy_samples.h"
-
-#include <assert.h>
+#include "phy_walk.h"
 
 enum {
     MOST_CODE = 17,
-    MOST_ITEMS = 60,
     SHORT_ITEMS = 30,
     SEEDED_WALKS = 80
 };
 
 static const uint64_t timers[] = {0, 1, 2, 999, 1000, 1001};
 enum { TIMERS = sizeof timers / sizeof timers[0] };
-
-/* now: where the items so far lead, so that a seeded walk can choose what is likely next. */
-struct phy_walk {
-    struct phy start;
-    struct phy now;
-    size_t count;
-    struct phy_item items[MOST_ITEMS];
-};
-
-/* ---- Walks ---- */
-
-static void walk_start(struct phy_walk *walk, struct phy start)
-{
-    walk->start = start;
-    walk->now = start;
-    walk->count = 0;
-}
-
-static void walk_add(struct phy_walk *walk, uint64_t repeat, struct phy_event event)
-{
-    assert(walk->count < MOST_ITEMS);
-    walk->items[walk->count] = (struct phy_item){.repeat = repeat, .event = event};
-    walk->count++;
-    for (uint64_t i = 0; i < repeat; i++) {
-        walk->now = phy_step(walk->now, event).phy;
-    }
-}
-
-static void expect_result(struct case_file *file, const struct phy_result *result)
-{
-    uint64_t line[4 + PHY_ARGUMENTS + PHY_FIELDS] = {
-        result->refusal, result->answer, result->notice, result->sent
-    };
-
-    request_to_arguments(&result->answered, line + 4);
-    phy_to_fields(&result->phy, line + 4 + PHY_ARGUMENTS);
-    expect_line(file, KIND_PHY_WALK, line, sizeof line / sizeof line[0]);
-}
-
-static bool reports_anything(const struct phy_result *result)
-{
-    return result->refusal != 0 || result->answer != 0 || result->notice != 0 || result->sent != 0;
-}
-
-static struct phy expect_item(struct case_file *file, struct phy phy, const struct phy_item *item)
-{
-    for (uint64_t i = 1; i <= item->repeat; i++) {
-        struct phy_result result = phy_step(phy, item->event);
-
-        if (i == item->repeat || reports_anything(&result)) {
-            expect_result(file, &result);
-        }
-        phy = result.phy;
-    }
-    return phy;
-}
-
-static void walk_write(struct case_file *file, const struct phy_walk *walk)
-{
-    uint64_t fields[PHY_FIELDS];
-    struct phy phy = walk->start;
-
-    phy_to_fields(&phy, fields);
-    case_number(file, KIND_PHY_WALK);
-    case_numbers(file, fields, PHY_FIELDS);
-    case_number(file, walk->count);
-    for (size_t i = 0; i < walk->count; i++) {
-        const struct phy_item *item = &walk->items[i];
-
-        case_number(file, item->repeat);
-        case_number(file, item->event.code);
-        case_numbers(file, item->event.argument, PHY_ARGUMENTS);
-        phy = expect_item(file, phy, item);
-    }
-}
-
-static void single_step(struct case_file *file, struct phy phy, struct phy_event event)
-{
-    struct phy_walk walk;
-
-    walk_start(&walk, phy);
-    walk_add(&walk, 1, event);
-    walk_write(file, &walk);
-}
 
 /* ---- Every pair with every event ---- */
 
@@ -111,13 +24,13 @@ static void step_every_event(struct case_file *file, struct phy phy)
     static const struct phy_event widest_inbound = {EVENT_OPEN_RECEIVED, {UINT64_MAX, 0, 0, 0, 0, 0}};
 
     for (uint64_t code = 0; code <= MOST_CODE; code++) {
-        single_step(file, phy, sample_event(code));
+        phy_single_step(file, phy, sample_event(code));
     }
     for (uint64_t reason = 1; reason <= 7; reason++) {
-        single_step(file, phy, open_reject(reason));
+        phy_single_step(file, phy, open_reject(reason));
     }
-    single_step(file, phy, widest_tx_open);
-    single_step(file, phy, widest_inbound);
+    phy_single_step(file, phy, widest_tx_open);
+    phy_single_step(file, phy, widest_inbound);
 }
 
 /* A refused step keeps the record, so one walk shows them all. */
@@ -125,11 +38,11 @@ static void refuse_every_event(struct case_file *file, struct phy phy)
 {
     struct phy_walk walk;
 
-    walk_start(&walk, phy);
+    phy_walk_start(&walk, phy);
     for (uint64_t code = 0; code <= MOST_CODE; code++) {
-        walk_add(&walk, 1, sample_event(code));
+        phy_walk_add(&walk, 1, sample_event(code));
     }
-    walk_write(file, &walk);
+    phy_walk_write(file, &walk);
 }
 
 static void sweep_valid_timers(struct case_file *file, struct phy phy)
@@ -164,7 +77,7 @@ static void sweep_invalid_flags(struct case_file *file, struct phy phy, uint64_t
         phy.accept = (flags & 1U) != 0;
         phy.far_closed = (flags & 2U) != 0;
         if (!phy_is_valid(&phy)) {
-            single_step(file, phy, sample_event((code + flags) % (MOST_CODE + 1)));
+            phy_single_step(file, phy, sample_event((code + flags) % (MOST_CODE + 1)));
         }
     }
 }
@@ -206,9 +119,9 @@ static void compare_addresses(struct case_file *file)
 
         phy.request.destination = pairs[i][0];
         phy.source = pairs[i][1];
-        single_step(file, phy, plain_event(EVENT_TICK));
+        phy_single_step(file, phy, plain_event(EVENT_TICK));
         phy.accept = true;
-        single_step(file, phy, plain_event(EVENT_TICK));
+        phy_single_step(file, phy, plain_event(EVENT_TICK));
     }
 }
 
@@ -228,7 +141,7 @@ static void try_arguments_had(struct case_file *file, struct phy phy)
             struct phy_event event = sample_event(ends->code);
 
             event.argument[ends->which] = ends->values[k];
-            single_step(file, phy, event);
+            phy_single_step(file, phy, event);
         }
     }
 }
@@ -240,7 +153,7 @@ static void try_arguments_lacked(struct case_file *file, struct phy phy)
             struct phy_event event = sample_event(code);
 
             event.argument[which] = which % 2 == 0 ? 1 : UINT64_MAX;
-            single_step(file, phy, event);
+            phy_single_step(file, phy, event);
         }
     }
 }
@@ -248,8 +161,8 @@ static void try_arguments_lacked(struct case_file *file, struct phy phy)
 static void try_codes(struct case_file *file, struct phy phy)
 {
     for (size_t i = 0; i < sizeof unknown_codes / sizeof unknown_codes[0]; i++) {
-        single_step(file, phy, plain_event(unknown_codes[i]));
-        single_step(file, phy, (struct phy_event){unknown_codes[i], {0, 0, 0, 0, 0, 1}});
+        phy_single_step(file, phy, plain_event(unknown_codes[i]));
+        phy_single_step(file, phy, (struct phy_event){unknown_codes[i], {0, 0, 0, 0, 0, 1}});
     }
 }
 
@@ -281,10 +194,10 @@ static void judge_field(struct case_file *file, const struct phy *phy, enum phy_
 
     phy_to_fields(phy, fields);
     fields[field] = value;
-    walk_start(&walk, phy_from_fields(fields));
-    walk_add(&walk, 1, plain_event(0));
-    walk_add(&walk, 1, plain_event(EVENT_PHY_DISABLED));
-    walk_write(file, &walk);
+    phy_walk_start(&walk, phy_from_fields(fields));
+    phy_walk_add(&walk, 1, plain_event(0));
+    phy_walk_add(&walk, 1, plain_event(EVENT_PHY_DISABLED));
+    phy_walk_write(file, &walk);
 }
 
 static void judge_listed_values(struct case_file *file, const struct phy *phy)
@@ -328,11 +241,11 @@ static void play_script(struct case_file *file, const struct phy_item items[SCRI
 {
     struct phy_walk walk;
 
-    walk_start(&walk, phy_fresh());
+    phy_walk_start(&walk, phy_fresh());
     for (size_t i = 0; i < SCRIPT_ITEMS && items[i].repeat != 0; i++) {
-        walk_add(&walk, items[i].repeat, items[i].event);
+        phy_walk_add(&walk, items[i].repeat, items[i].event);
     }
-    walk_write(file, &walk);
+    phy_walk_write(file, &walk);
 }
 
 /* ---- Seeded walks ---- */
@@ -370,13 +283,13 @@ static void seeded_walk(struct case_file *file, struct phy start, size_t items)
 {
     struct phy_walk walk;
 
-    walk_start(&walk, start);
+    phy_walk_start(&walk, start);
     while (walk.count < items) {
         struct phy_event event = random_event(file, &walk.now);
 
-        walk_add(&walk, random_repeat(file, &event), event);
+        phy_walk_add(&walk, random_repeat(file, &event), event);
     }
-    walk_write(file, &walk);
+    phy_walk_write(file, &walk);
 }
 
 /* Some of these records no fresh phy ever reaches. */
@@ -405,6 +318,6 @@ void make_phy_cases(struct case_file *file)
     }
     walk_from_every_pair(file);
     for (int i = 0; i < SEEDED_WALKS; i++) {
-        seeded_walk(file, phy_fresh(), MOST_ITEMS);
+        seeded_walk(file, phy_fresh(), MOST_WALK_ITEMS);
     }
 }

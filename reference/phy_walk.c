@@ -1,0 +1,79 @@
+#include "phy_walk.h"
+
+#include "phy_fields.h"
+
+#include <assert.h>
+
+void phy_walk_start(struct phy_walk *walk, struct phy start)
+{
+    walk->start = start;
+    walk->now = start;
+    walk->count = 0;
+}
+
+void phy_walk_add(struct phy_walk *walk, uint64_t repeat, struct phy_event event)
+{
+    assert(walk->count < MOST_WALK_ITEMS);
+    walk->items[walk->count] = (struct phy_item){.repeat = repeat, .event = event};
+    walk->count++;
+    for (uint64_t i = 0; i < repeat; i++) {
+        walk->now = phy_step(walk->now, event).phy;
+    }
+}
+
+static void expect_result(struct case_file *file, const struct phy_result *result)
+{
+    uint64_t line[4 + PHY_ARGUMENTS + PHY_FIELDS] = {
+        result->refusal, result->answer, result->notice, result->sent
+    };
+
+    request_to_arguments(&result->answered, line + 4);
+    phy_to_fields(&result->phy, line + 4 + PHY_ARGUMENTS);
+    expect_line(file, KIND_PHY_WALK, line, sizeof line / sizeof line[0]);
+}
+
+static bool reports_anything(const struct phy_result *result)
+{
+    return result->refusal != 0 || result->answer != 0 || result->notice != 0 || result->sent != 0;
+}
+
+static struct phy expect_item(struct case_file *file, struct phy phy, const struct phy_item *item)
+{
+    for (uint64_t i = 1; i <= item->repeat; i++) {
+        struct phy_result result = phy_step(phy, item->event);
+
+        if (i == item->repeat || reports_anything(&result)) {
+            expect_result(file, &result);
+        }
+        phy = result.phy;
+    }
+    return phy;
+}
+
+void phy_walk_write(struct case_file *file, const struct phy_walk *walk)
+{
+    uint64_t fields[PHY_FIELDS];
+    struct phy phy = walk->start;
+
+    phy_to_fields(&phy, fields);
+    case_number(file, KIND_PHY_WALK);
+    case_numbers(file, fields, PHY_FIELDS);
+    case_number(file, walk->count);
+    for (size_t i = 0; i < walk->count; i++) {
+        const struct phy_item *item = &walk->items[i];
+
+        case_number(file, item->repeat);
+        case_number(file, item->event.code);
+        case_numbers(file, item->event.argument, PHY_ARGUMENTS);
+        phy = expect_item(file, phy, item);
+    }
+}
+
+void phy_single_step(struct case_file *file, struct phy phy, struct phy_event event)
+{
+    struct phy_walk walk;
+
+    phy_walk_start(&walk, phy);
+    phy_walk_add(&walk, 1, event);
+    phy_walk_write(file, &walk);
+}
