@@ -1,0 +1,46 @@
+#ifndef DIFFER_H
+#define DIFFER_H
+
+#include <stdbool.h>
+#include <stddef.h>
+#include <stdint.h>
+
+#include "louravela.h"
+#include "phy.h"
+
+extern unsigned long long compared_steps;
+extern unsigned long long compared_records;
+extern unsigned long long compared_runs;
+extern unsigned long long compared_events;
+extern unsigned long long compared_numbers;
+
+/* Random numbers, most of them near the edges of something. */
+bool one_in(uint64_t chances);
+uint64_t random_any(void);
+
+/* Differences, counted, and the first of them printed. */
+void differ(const char *what);
+void same(const char *what, uint64_t ours, uint64_t theirs);
+void same_bytes(const char *what, const uint8_t *ours, const uint8_t *theirs, size_t length);
+
+/* The reference has a phy of the same fields if the flags are good. */
+bool phy_flags_good(const struct louravela_phy *phy);
+struct phy their_phy(const struct louravela_phy *phy);
+void same_open(const struct louravela_open *ours, const struct phy_request *theirs);
+void same_phy(const struct louravela_phy *ours, const struct phy *theirs);
+
+/* A known event is valid; of the random ones some have any number in one of their fields. */
+struct louravela_event known_event(void);
+struct louravela_event random_event(void);
+struct louravela_phy damaged_phy(struct louravela_phy phy);
+
+/* Steps of the machines. */
+struct louravela_phy walk_phy(void);
+void walk_dws(void);
+void walk_identify(void);
+
+/* Traces, their runs and their numbers. */
+void walk_trace(struct louravela_phy phy);
+void walk_numbers(void);
+
+#endif
