@@ -29,17 +29,17 @@ receiverRight i = leb (i .receiver) completed
 abbrev pub countRight : Identification → Bool
 countRight i = split (inFrame i) (leb (i .count) frameDwords) (eqb (i .count) 0)
 
--- the type is known to be Identify only in a frame, from its first dword on
-abbrev pub typedRight : Identification → Bool
-typedRight i = only (i .typed) (inFrame i && leb 1 (i .count))
+-- the timer is 1 to 1,000 exactly while a frame is awaited, else 0
+abbrev pub timerRight : Identification → Bool
+timerRight i = split (awaiting i) (leb 1 (i .timer) && leb (i .timer) mostTicks) (eqb (i .timer) 0)
 
 -- an identify is got only where a frame has ended
 abbrev pub gotRight : Identification → Bool
 gotRight i = only (i .got) (eqb (i .receiver) completed)
 
--- the timer is 1 to 1,000 exactly while a frame is awaited, else 0
-abbrev pub timerRight : Identification → Bool
-timerRight i = split (awaiting i) (leb 1 (i .timer) && leb (i .timer) mostTicks) (eqb (i .timer) 0)
+-- the type is known to be Identify only in a frame, from its first dword on
+abbrev pub typedRight : Identification → Bool
+typedRight i = only (i .typed) (inFrame i && leb 1 (i .count))
 
 -- the outcome is none or one of the three
 abbrev pub outcomeRight : Identification → Bool
