@@ -20,7 +20,7 @@ use Rattle.phy.specs.Moves.{refused, idleRows, toIdle, txOpenRows, openByLink, 
 use Rattle.phy.specs.Step.{moveOf, stepOf}
 use Rattle.phy.specs.declared.Phy.{Phy}
 use Rattle.phy.specs.declared.Stepped.{Stepped}
-use Rattle.laws.specs.Laws.{Judged, BadStateExactly, BadEventExactly, AsTheWriter, BusyExactly, NothingPendingExactly, NotConnectedExactly, WrongProtocolExactly, Free, TakenExactly, RefusedKeeps}
+use Rattle.laws.specs.Laws.{Judged, StepIsMove, BadStateExactly, BadEventExactly, AsTheWriter, BusyExactly, NothingPendingExactly, NotConnectedExactly, WrongProtocolExactly, Free, TakenExactly, RefusedKeeps}
 use Rattle.laws.proofs.ByEvent.{event, by-code, code-known}
 use Rattle.laws.proofs.Steps.{by-way}
 
@@ -183,10 +183,9 @@ give-none (is-other c l n) g = absurd (n (g .protocol c))
 
 -- ---- exactly when
 
--- a judged step is the event's move
-pub moves : (p : Phy) (e : Event) → Judged p e → stepOf p e ≡ moveOf p e
+pub step-is-move : StepIsMove
 unfolding stepOf
-moves p e j = rw (j .valid, j .known)
+step-is-move p e j = rw (j .valid, j .known)
 
 -- why a step gave a number that is neither 1 nor 2
 reason : (p : Phy) (e : Event) (n : ℕ) → (badState ≡ n → ⊥) → (badEvent ≡ n → ⊥) → stepOf p e .refusal ≡ n → Judged p e × Why p e n
@@ -219,31 +218,31 @@ as-the-writer p e buffer place v =
 pub busy-exactly : BusyExactly
 busy-exactly p e = (
   λ q. let w = reason p e busy (omega arith) (omega arith) q in (w .0, w .1 .0, w .1 .1),
-  λ w. rw (moves p e (w .0)) (give-busy (judged p e (w .0 .known)) (w .1) (w .2)),
+  λ w. rw (step-is-move p e (w .0)) (give-busy (judged p e (w .0 .known)) (w .1) (w .2)),
 )
 
 pub nothing-pending-exactly : NothingPendingExactly
 nothing-pending-exactly p e = (
   λ q. let w = reason p e nothingPending (omega arith) (omega arith) q in (w .0, w .1 .0, w .1 .1),
-  λ w. rw (moves p e (w .0)) (give-idle (judged p e (w .0 .known)) (w .1) (w .2)),
+  λ w. rw (step-is-move p e (w .0)) (give-idle (judged p e (w .0 .known)) (w .1) (w .2)),
 )
 
 pub not-connected-exactly : NotConnectedExactly
 not-connected-exactly p e = (
   λ q. let w = reason p e notConnected (omega arith) (omega arith) q in (w .0, w .1 .0, w .1 .1),
-  λ w. rw (moves p e (w .0)) (give-apart (judged p e (w .0 .known)) (w .1) (w .2)),
+  λ w. rw (step-is-move p e (w .0)) (give-apart (judged p e (w .0 .known)) (w .1) (w .2)),
 )
 
 pub wrong-protocol-exactly : WrongProtocolExactly
 wrong-protocol-exactly p e = (
   λ q. let w = reason p e wrongProtocol (omega arith) (omega arith) q in (w .0, w .1 .0, w .1 .1, w .1 .2),
-  λ w. rw (moves p e (w .0)) (give-other (judged p e (w .0 .known)) (w .1) (w .2) (w .3)),
+  λ w. rw (step-is-move p e (w .0)) (give-other (judged p e (w .0 .known)) (w .1) (w .2) (w .3)),
 )
 
 pub taken-exactly : TakenExactly
 taken-exactly p e = (
   λ q. reason p e 0 (omega arith) (omega arith) q,
-  λ w. rw (moves p e (w .0)) (give-none (judged p e (w .0 .known)) (w .1)),
+  λ w. rw (step-is-move p e (w .0)) (give-none (judged p e (w .0 .known)) (w .1)),
 )
 
 -- ---- a refused step keeps the phy

@@ -14,7 +14,7 @@ use Rattle.trace.specs.Writing as writing
 use Rattle.phy.specs.Names.{L3, P1, P2, P3, closedReset, BREAK}
 use Rattle.phy.specs.State.{noOpen, freshPhy, validOf}
 use Rattle.phy.specs.Moves.{refused}
-use Rattle.phy.specs.Step.{stepOf}
+use Rattle.phy.specs.Step.{moveOf, stepOf}
 use Rattle.phy.specs.declared.Phy.{Phy}
 use Rattle.laws.specs.Waiting.{waits, isAnswer}
 
@@ -40,6 +40,10 @@ RefusedKeeps = (p : Phy) (e : Event) → (stepOf p e .refusal ≡ 0 → ⊥) →
 pub record Judged (p : Phy) (e : Event) : Type 0 where
   pub valid : validOf p ≡ true
   pub known : knownOf e ≡ true
+
+-- there `step` gives what `moved` gives, which judges neither
+abbrev pub StepIsMove : Type 0
+StepIsMove = (p : Phy) (e : Event) → Judged p e → stepOf p e ≡ moveOf p e
 
 -- 1: the phy is not valid
 abbrev pub BadStateExactly : Type 0

@@ -22,7 +22,7 @@ use Rattle.phy.specs.declared.Stepped.{Stepped}
 use Rattle.laws.specs.Waiting.{waits, isAnswer}
 use Rattle.laws.proofs.Counting.{accepts, heard, ticksOf, aipsOf, left}
 use Rattle.laws.specs.Laws.{Judged}
-use Rattle.laws.proofs.Refusals.{moves, taken-exactly}
+use Rattle.laws.proofs.Refusals.{step-is-move, taken-exactly}
 use Rattle.laws.proofs.Shapes.{by-shape}
 use Rattle.laws.proofs.OneStep.{Stepping, wait-known, open-known, at-least-one}
 use Rattle.laws.proofs.InUse.{runs}
@@ -112,7 +112,7 @@ module _ (p : Phy) (e : Event) (v : validOf p ≡ true) (k : knownOf e ≡ true)
   unrefused : (code : ℕ) → (code ≡ 1 → ⊥) → (code ≡ 2 → ⊥) → (code ≡ 3 → ⊥) → (code ≡ 4 → ⊥) → e .code ≡ code → moveOf p e .refusal ≡ 0
   unrefused code a b c d h =
       let j : Judged p e = record { valid = v; known = k } in
-      ap (λ (r : Stepped). r .refusal) (sym (moves p e j))
+      ap (λ (r : Stepped). r .refusal) (sym (step-is-move p e j))
       ∙ taken-exactly p e .1 (j, record { opens = λ q. absurd (a (sym h ∙ q)); cancels = λ q. absurd (b (sym h ∙ q)); closes = λ q. absurd (c (sym h ∙ q)); breaks = λ q. absurd (d (sym h ∙ q)); protocol = λ q. absurd (d (sym h ∙ q)) })
 
   counts : (code : ℕ) → (code ≡ 1 → ⊥) → (code ≡ 2 → ⊥) → (code ≡ 3 → ⊥) → (code ≡ 4 → ⊥) → taken code x ≡ eqb (e .code) code

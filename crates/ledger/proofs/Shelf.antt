@@ -15,7 +15,7 @@ use Rattle.phy.specs.Step.{moveOf, stepOf}
 use Rattle.phy.specs.declared.Phy.{Phy}
 use Rattle.laws.specs.Waiting.{waits}
 use Rattle.laws.proofs.Steps.{fresh-valid}
-use Rattle.laws.proofs.Refusals.{moves, refused-keeps}
+use Rattle.laws.proofs.Refusals.{step-is-move, refused-keeps}
 use Rattle.ledger.specs.Log.{Entry, entry, accepted, answered, many}
 use Rattle.ledger.specs.Ledger.{Ledger, free, waiting, broken, through, silent, answers, book, books}
 use Rattle.ledger.specs.Demand.{phyAfter, booksOf}
@@ -110,5 +110,5 @@ pub reset-frees : ResetFrees
 reset-frees es e k c =
     let p = phyAfter es in
     let f = follow freshPhy free es fresh-valid refl in
-    let m : stepOf p e ≡ onReset p = moves p e (record { valid = f .0; known = k }) ∙ reset-moves p e c in
+    let m : stepOf p e ≡ onReset p = step-is-move p e (record { valid = f .0; known = k }) ∙ reset-moves p e c in
     rests-by (stepOf p e .next) (book (booksOf es) (entry stepOf p e)) (agree p e (booksOf es) (f .0) (f .1)) (rw m (reset-rests p))

@@ -10,7 +10,6 @@ use lib.Dec.{leb}
 use lib.ListN.{length, set, length-set}
 use lib.Seq.{sets}
 use Rattle.table.specs.Refusals.{badState, noRoom}
-use Rattle.event.specs.Table.{knownOf}
 use Rattle.event.specs.declared.Event.{Event}
 use Rattle.trace.specs.Reading as reading
 use Rattle.trace.specs.Reading.{readEvent}
@@ -19,6 +18,7 @@ use Rattle.phy.specs.State.{validOf}
 use Rattle.phy.specs.Step.{moveOf, stepOf}
 use Rattle.phy.specs.declared.Phy.{Phy}
 use Rattle.phy.specs.declared.Stepped.{Stepped}
+use Rattle.laws.proofs.Refusals.{step-is-move}
 use Rattle.laws.proofs.Steps.{stays-valid}
 use Rattle.ledger.specs.Log.{after}
 use Rattle.run.specs.Running.{Halt, atEnd, atBudget, atFault, refused, Course, stops, first, taking, byteOf, bytesOf, Told, told, toldOf, tells}
@@ -26,12 +26,6 @@ use Rattle.run.specs.Contracts.{TakesEvents, Runs}
 use Rattle.run.specs.declared.Ran.{Ran}
 use Rattle.run.proofs.Bytes.{answer-small}
 use Rattle.run.proofs.Taking.{taking-ended, taking-spent, taking-event, taking-fault}
-
--- ---- a known event of a valid phy goes straight to its move
-
-straight : (p : Phy) (e : Event) → validOf p ≡ true → knownOf e ≡ true → stepOf p e ≡ moveOf p e
-unfolding stepOf
-straight p e v k = rw (v, k) refl
 
 -- ---- the invariant
 
@@ -70,7 +64,7 @@ module _ {p : Phy} {s : List ℕ} {budget : ℕ} {before : List ℕ} {state : Ph
   -- ---- an event is read, with budget left
   module _ {e : Event} {next : ℕ} {m : Stepped} (h : (count ≡ budget → ⊥)) (r : readEvent s place ≡ reading.event e next) (q : m ≡ moveOf state e) where
     moves : stepOf state e ≡ m
-    moves = straight state e (w .valid) (read-known s place e next r) ∙ sym q
+    moves = step-is-move state e (record { valid = w .valid; known = read-known s place e next r }) ∙ sym q
 
     pub running-small : m .answer < 256
     running-small = rw (← moves) (answer-small state e)
