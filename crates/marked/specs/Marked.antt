@@ -105,9 +105,14 @@ M9 = record { number = 9; given = answersTo (openTo 5 ∷ plain cancelOpen ∷ p
 abbrev pub M10 : Case
 M10 = record { number = 10; given = refusalsTo (openTo 5 ∷ openTo 5 ∷ []); said = 0 ∷ busy ∷ [] }
 
--- 300 is AC 02
+-- 300 is AC 02: written so, and read back with the place after it
 abbrev pub M11 : Case
-M11 = record { number = 11; given = numberBytes 300; said = 0xAC ∷ 0x02 ∷ [] }
+M11 =
+    record {
+      number = 11;
+      given = numberBytes 300 ++ numbersOf (readNumber (0xAC ∷ 0x02 ∷ []) 0);
+      said = 0xAC ∷ 0x02 ∷ 0 ∷ 300 ∷ 2 ∷ [];
+    }
 
 -- 80 00 is Overlong
 abbrev pub M12 : Case
