@@ -23,6 +23,9 @@
 #include <stddef.h>
 #include <stdint.h>
 
+/* The version of this header and of the archives that are built beside it. */
+#define LOURAVELA_VERSION "4.0.0"
+
 #ifdef __cplusplus
 extern "C" {
 #endif
@@ -181,11 +184,14 @@ enum {
     LOURAVELA_STOPPED_AT_FAULT = 2
 };
 
-/* What a run gives. Refused, it took nothing, and all but the phy is zero. */
+/*
+ * What a run gives. `refusal` is looked at first: a refused run took nothing, its phy is the one given, and every
+ * other field is zero, `how` too, so that `how` alone would say that the trace had ended.
+ */
 struct louravela_ran {
     struct louravela_phy next;
     size_t count;     /* events taken; a refused event counts as taken */
-    uint64_t how;
+    uint64_t how;     /* where nothing is refused */
     uint64_t fault;   /* stopped at a fault: its number, 2, 7, 8 or 9, else 0 */
     size_t place;     /* and the place of the event's first byte, else 0 */
     uint64_t refusal; /* 0, 1 or 10 */
