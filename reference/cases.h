@@ -8,6 +8,9 @@ void make_dws_cases(struct case_file *file);
 void make_identify_cases(struct case_file *file);
 void make_phy_cases(struct case_file *file);
 
+/* Comes first in its file; false if its lines do not fill the buffer that they are meant for. */
+bool make_full_output_case(struct case_file *file);
+
 void make_read_event_cases(struct case_file *file);
 void make_write_event_cases(struct case_file *file);
 void make_whole_trace_cases(struct case_file *file);

@@ -61,6 +61,12 @@ static bool make_trace_cases(const char *folder, const char *traces)
     if (!open_cases(&file, folder, "trace_cases")) {
         return false;
     }
+
+    bool full = make_full_output_case(&file);
+
+    if (!full) {
+        fputs("make_cases: the first lines do not fill a buffer to its last byte\n", stderr);
+    }
     file.random = SEED_READ_EVENT;
     make_read_event_cases(&file);
     file.random = SEED_WRITE_EVENT;
@@ -74,7 +80,7 @@ static bool make_trace_cases(const char *folder, const char *traces)
 
     bool named = make_named_listing_cases(&file, traces);
 
-    return close_cases(&file) && named;
+    return close_cases(&file) && full && named;
 }
 
 int main(int argc, char **argv)
