@@ -7,7 +7,7 @@ use Rattle.trace.specs.Reading.{Told, event, end, tells}
 use Rattle.trace.specs.Reading as reading
 use Rattle.trace.specs.Writing.{ToldWritten, wrote, tellsWritten}
 use Rattle.trace.specs.Writing as writing
-use Rattle.trace.specs.Laws.{ReadTellsOnce, WrittenTellsOnce, ReadDetermined, WriteDetermined, StartDetermined, MoveDetermined}
+use Rattle.trace.specs.Laws.{ReadTellsOnce, WrittenTellsOnce, ReadDetermined, WriteDetermined, StartDetermined}
 use Rattle.trace.specs.declared.EventRead.{EventRead}
 use Rattle.trace.specs.declared.EventRead.the-variants as read
 use Rattle.trace.specs.declared.EventWritten.{EventWritten}
@@ -57,6 +57,3 @@ same-reader a b = λ i. record { trace = a i; place = b i }
 
 pub start-determined : StartDetermined
 start-determined trace r q a b = same-reader (a .holds ∙ sym (b .holds)) (a .first ∙ sym (b .first))
-
-pub move-determined : MoveDetermined
-move-determined reader place r q a b = same-reader (a .holds ∙ sym (b .holds)) (a .there ∙ sym (b .there))

@@ -16,7 +16,7 @@ use Rattle.trace.specs.Reading.{event, end, eventOf, readEvent, eventGiv
 use Rattle.trace.specs.Reading as reading
 use Rattle.trace.specs.Writing.{wrote, eventBytes, traceBytes, writeEvent, bufferAfter, lengthGiven, tellsWritten}
 use Rattle.trace.specs.Writing as writing
-use Rattle.trace.specs.Contracts.{ReadsEvent, WritesEvent, StartsReader, MovesReader}
+use Rattle.trace.specs.Contracts.{ReadsEvent, WritesEvent, StartsReader}
 use Rattle.trace.specs.declared.EventRead.{EventRead}
 use Rattle.trace.specs.declared.EventWritten.{EventWritten}
 use Rattle.trace.specs.declared.Reader.{Reader}
@@ -44,10 +44,6 @@ WriteDetermined =
 -- two readers that `new` may make of a trace coincide
 abbrev pub StartDetermined : Type 0
 StartDetermined = (trace : RefT (List ℕ)) (r q : Reader) → StartsReader trace r → StartsReader trace q → r ≡ q
-
--- two readers that `moved` may give coincide
-abbrev pub MoveDetermined : Type 0
-MoveDetermined = (reader : Reader) (place : ℕ) (r q : Reader) → MovesReader reader place r → MovesReader reader place q → r ≡ q
 
 -- ---- one event (proofs/RoundTrip, proofs/Accepted)
 
