@@ -16,7 +16,7 @@ use Rattle.trace.specs.Reading.{event, end, eventOf, readEvent, eventGiv
 use Rattle.trace.specs.Reading as reading
 use Rattle.trace.specs.Writing.{wrote, eventBytes, traceBytes, writeEvent, bufferAfter, lengthGiven, tellsWritten}
 use Rattle.trace.specs.Writing as writing
-use Rattle.trace.specs.Contracts.{ReadsEvent, WritesEvent, StartsReader}
+use Rattle.trace.specs.Contracts.{ReadsEvent, ReachesPlace, GivesEvent, WritesEvent, StartsReader, TakesNext}
 use Rattle.trace.specs.declared.EventRead.{EventRead}
 use Rattle.trace.specs.declared.EventWritten.{EventWritten}
 use Rattle.trace.specs.declared.Reader.{Reader}
@@ -31,9 +31,17 @@ ReadTellsOnce = (r q : EventRead) → tells r ≡ tells q → r ≡ q
 abbrev pub WrittenTellsOnce : Type 0
 WrittenTellsOnce = (r q : EventWritten) → tellsWritten r ≡ tellsWritten q → r ≡ q
 
--- two results that `read_event` may give coincide; `next` and `event_at` promise the same
+-- two results that `event_at` may give coincide
 abbrev pub ReadDetermined : Type 0
 ReadDetermined = (s : List ℕ) (place : ℕ) (r q : EventRead) → ReadsEvent s place r → ReadsEvent s place q → r ≡ q
+
+-- two results that `place_reached` may give coincide
+abbrev pub PlaceDetermined : Type 0
+PlaceDetermined = (read : EventRead) (place r q : ℕ) → ReachesPlace read place r → ReachesPlace read place q → r ≡ q
+
+-- two results that `event_given` may give coincide
+abbrev pub GivenDetermined : Type 0
+GivenDetermined = (read : EventRead) (r q : Event) → GivesEvent read r → GivesEvent read q → r ≡ q
 
 -- two results that `write_event` may give coincide, and so do the buffers that it may leave
 abbrev pub WriteDetermined : Type 0
@@ -44,6 +52,12 @@ WriteDetermined =
 -- two readers that `new` may make of a trace coincide
 abbrev pub StartDetermined : Type 0
 StartDetermined = (trace : RefT (List ℕ)) (r q : Reader) → StartsReader trace r → StartsReader trace q → r ≡ q
+
+-- two results that `next` may give coincide, and so do the readers that it may leave
+abbrev pub NextDetermined : Type 0
+NextDetermined =
+    (before : Reader) (r q : EventRead) (after later : Reader)
+    → TakesNext before r after → TakesNext before q later → (r ≡ q) × (after ≡ later)
 
 -- ---- one event (proofs/RoundTrip, proofs/Accepted)
 
