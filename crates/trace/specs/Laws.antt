@@ -2,7 +2,7 @@
 use Prim.Native.Nat.{ℕ, _+_, _≤_, _<_}
 use mathlib.Core.Bool.{true, false}
 use mathlib.Core.List.{List, [], _∷_, _++_}
-use mathlib.Core.Logic.{_↔_}
+use mathlib.Core.Logic.{_↔_, _⊎_}
 use mathlib.Core.Path.{_≡_}
 use lib.ListN.{length, take, drop}
 use denote.Ref.{RefT}
@@ -71,6 +71,29 @@ OthersKept =
     (e : Event) (buffer : List ℕ) (place n : ℕ) → writeEvent e buffer place ≡ wrote n
     → (take place (bufferAfter e buffer place) ≡ take place buffer) × (drop (place + n) (bufferAfter e buffer place) ≡ drop (place + n) buffer)
 
+-- numbers vs, each read and in its range, stand end to end from a place on; `next` is the place after the last
+pub data ArgumentsStand (s : List ℕ) : List Range → ℕ → List ℕ → ℕ → Type 0 where
+  none : {place : ℕ} → ArgumentsStand s [] place [] place
+  one :
+      {range : Range} {ranges : List Range} {place v after : ℕ} {vs : List ℕ} {next : ℕ}
+      → readNumber s place ≡ value v after → within range v ≡ true → ArgumentsStand s ranges after vs next
+      → ArgumentsStand s (range ∷ ranges) place (v ∷ vs) next
+
+-- an event stands at a place inside the trace: a known code, then its arguments; `next` is the place after them
+pub record Stands (s : List ℕ) (place : ℕ) (e : Event) (next : ℕ) : Type 0 where
+  pub code : ℕ
+  pub after : ℕ
+  pub vs : List ℕ
+  pub inside : place < length s
+  pub reads : readNumber s place ≡ value code after
+  pub coded : codeKnown code ≡ true
+  pub rest : ArgumentsStand s (argumentsOf code) after vs next
+  pub made : e ≡ eventOf code vs
+
+-- an event is read exactly where it stands
+abbrev pub EventExactly : Type 0
+EventExactly = (s : List ℕ) (place : ℕ) (e : Event) (next : ℕ) → readEvent s place ≡ event e next ↔ Stands s place e next
+
 -- an event read is one that `known` accepts
 abbrev pub ReadKnown : Type 0
 ReadKnown = (s : List ℕ) (place : ℕ) (e : Event) (next : ℕ) → readEvent s place ≡ event e next → knownOf e ≡ true
@@ -136,6 +159,12 @@ pub record OutOfRange (s : List ℕ) (place : ℕ) : Type 0 where
 
 abbrev pub BadEventExactly : Type 0
 BadEventExactly = (s : List ℕ) (place : ℕ) → readEvent s place ≡ reading.refused badEvent place ↔ OutOfRange s place
+
+-- the reader gives no other refusal
+abbrev pub RefusesNoOther : Type 0
+RefusesNoOther =
+    (s : List ℕ) (place n at : ℕ) → readEvent s place ≡ reading.refused n at
+    → (n ≡ badEvent) ⊎ ((n ≡ cut) ⊎ ((n ≡ overlong) ⊎ (n ≡ tooLarge)))
 
 -- every fault is told with the place of the event's first byte, gives a zero event and does not move the place
 pub record AtFirstByte (s : List ℕ) (place at : ℕ) : Type 0 where
