@@ -8,4 +8,5 @@ pub mod Why
 pub mod Refusals
 pub mod Accepted
 pub mod RoundTrip
+pub mod Written
 pub mod OneForm

@@ -5,6 +5,7 @@ use mathlib.Core.List.{List, [], _∷_, _++_}
 use mathlib.Core.Logic.{_↔_, _⊎_}
 use mathlib.Core.Path.{_≡_}
 use lib.ListN.{length, take, drop}
+use lib.Seq.{sets}
 use denote.Ref.{RefT}
 use Rattle.table.specs.Refusals.{badEvent, cut, overlong, tooLarge, noRoom}
 use Rattle.number.specs.Reading.{value, readNumber}
@@ -19,6 +20,7 @@ use Rattle.trace.specs.Writing as writing
 use Rattle.trace.specs.Contracts.{ReadsEvent, ReachesPlace, GivesEvent, WritesEvent, StartsReader, TakesNext}
 use Rattle.trace.specs.declared.EventRead.{EventRead}
 use Rattle.trace.specs.declared.EventWritten.{EventWritten}
+use Rattle.trace.specs.declared.EventWritten.the-variants.{Length}
 use Rattle.trace.specs.declared.Reader.{Reader}
 
 -- ---- each answer says one thing (proofs/Determined)
@@ -216,6 +218,43 @@ TraceBack = (es : List Event) → AllKnown es → ReadsAll (traceBytes es) 0 es
 -- a trace is read to one list of events only
 abbrev pub ReadsOnce : Type 0
 ReadsOnce = (s : List ℕ) (place : ℕ) (es fs : List Event) → ReadsAll s place es → ReadsAll s place fs → es ≡ fs
+
+-- ---- a trace written by calls of `write_event` (proofs/Written)
+
+-- calls that write the events of a list, each at the place after the last, take `before` to `after` and the place to `last`
+pub data WritesAll : (before : List ℕ) (place : ℕ) → List Event → (after : List ℕ) (last : ℕ) → Type 0 where
+  done : {buffer : List ℕ} {place : ℕ} → WritesAll buffer place [] buffer place
+  put :
+      {e : Event} {es : List Event} {before middle after : List ℕ} {place n last : ℕ}
+      → WritesEvent e before place (Length n) middle → WritesAll middle (place + n) es after last
+      → WritesAll before place (e ∷ es) after last
+
+-- the bytes of the events stand at the place, every other byte is as it was, and what was written reads back
+pub record WrittenOut (before : List ℕ) (place : ℕ) (es : List Event) (after : List ℕ) (last : ℕ) : Type 0 where
+  pub bytes : after ≡ sets before place (traceBytes es)
+  pub far : last ≡ place + length (traceBytes es)
+  pub room : last ≤ length before
+  pub earlier : take place after ≡ take place before
+  pub later : drop last after ≡ drop last before
+  pub back : ReadsAll (take last after) place es
+
+-- such calls, from a place in the buffer or at its end, leave just that
+abbrev pub AllWritten : Type 0
+AllWritten =
+    (es : List Event) (before : List ℕ) (place : ℕ) (after : List ℕ) (last : ℕ)
+    → place ≤ length before → WritesAll before place es after last → WrittenOut before place es after last
+
+-- there are such calls: none is refused
+pub record Writable (before : List ℕ) (place : ℕ) (es : List Event) : Type 0 where
+  pub after : List ℕ
+  pub last : ℕ
+  pub calls : WritesAll before place es after last
+
+-- there are exactly when every event is known and their bytes fit between the place and the buffer's end
+abbrev pub WritableExactly : Type 0
+WritableExactly =
+    (es : List Event) (before : List ℕ) (place : ℕ) → place ≤ length before
+    → Writable before place es ↔ (AllKnown es × (place + length (traceBytes es) ≤ length before))
 
 -- ---- one form for each event (proofs/OneForm, which nothing else cites: padded numbers will remove it)
 
