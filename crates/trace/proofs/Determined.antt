@@ -59,7 +59,7 @@ pub write-determined : WriteDetermined
 write-determined e before place r q after later a b = (written-tells-once r q (a .says ∙ sym (b .says)), a .bytes ∙ sym (b .bytes))
 
 -- a reader is what it holds and its place
-same-reader : {r q : Reader} → r .trace ≡ q .trace → r .place ≡ q .place → r ≡ q
+pub same-reader : {r q : Reader} → r .trace ≡ q .trace → r .place ≡ q .place → r ≡ q
 same-reader a b = λ i. record { trace = a i; place = b i }
 
 pub start-determined : StartDetermined

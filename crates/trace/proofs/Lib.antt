@@ -9,4 +9,5 @@ pub mod Refusals
 pub mod Accepted
 pub mod RoundTrip
 pub mod Written
+pub mod Calls
 pub mod OneForm

@@ -1,24 +1,25 @@
 -- What is promised of events of a trace beyond the contracts. Each statement is proved under its own name, in the file of proofs/ that stands beside its heading.
 use Prim.Native.Nat.{ℕ, _+_, _≤_, _<_}
 use mathlib.Core.Bool.{true, false}
-use mathlib.Core.List.{List, [], _∷_, _++_}
+use mathlib.Core.List.{List, [], _∷_, _++_, map}
 use mathlib.Core.Logic.{_↔_, _⊎_}
 use mathlib.Core.Path.{_≡_}
-use lib.ListN.{length, take, drop}
+use lib.ListN.{length, take, drop, replicate}
 use lib.Seq.{sets}
-use denote.Ref.{RefT}
+use denote.Ref.{RefT, now}
 use Rattle.table.specs.Refusals.{badEvent, cut, overlong, tooLarge, noRoom}
 use Rattle.number.specs.Reading.{value, readNumber}
 use Rattle.number.specs.Laws.{EndsEarly, EndsInZero, TenthTooLarge, Bytes}
 use Rattle.event.specs.Table.{argumentsOf, within, codeKnown, knownOf, codes}
 use Rattle.event.specs.declared.Event.{Event}
 use Rattle.event.specs.declared.Range.{Range}
-use Rattle.trace.specs.Reading.{event, end, eventOf, readEvent, eventGiven, placeReached, tells}
+use Rattle.trace.specs.Reading.{Told, event, end, eventOf, readEvent, eventGiven, placeReached, tells}
 use Rattle.trace.specs.Reading as reading
 use Rattle.trace.specs.Writing.{wrote, eventBytes, traceBytes, writeEvent, bufferAfter, lengthGiven, tellsWritten}
 use Rattle.trace.specs.Writing as writing
 use Rattle.trace.specs.Contracts.{ReadsEvent, ReachesPlace, GivesEvent, WritesEvent, StartsReader, TakesNext}
 use Rattle.trace.specs.declared.EventRead.{EventRead}
+use Rattle.trace.specs.declared.EventRead.the-variants.{Event as Known}
 use Rattle.trace.specs.declared.EventWritten.{EventWritten}
 use Rattle.trace.specs.declared.EventWritten.the-variants.{Length}
 use Rattle.trace.specs.declared.Reader.{Reader}
@@ -221,7 +222,7 @@ ReadsOnce = (s : List ℕ) (place : ℕ) (es fs : List Event) → ReadsAll s pla
 
 -- ---- a trace written by calls of `write_event` (proofs/Written)
 
--- calls that write the events of a list, each at the place after the last, take `before` to `after` and the place to `last`
+-- calls that write a list's events, each at the place after the last, take `before` to `after`, the place to `last`
 pub data WritesAll : (before : List ℕ) (place : ℕ) → List Event → (after : List ℕ) (last : ℕ) → Type 0 where
   done : {buffer : List ℕ} {place : ℕ} → WritesAll buffer place [] buffer place
   put :
@@ -238,7 +239,7 @@ pub record WrittenOut (before : List ℕ) (place : ℕ) (es : List Event) (after
   pub later : drop last after ≡ drop last before
   pub back : ReadsAll (take last after) place es
 
--- such calls, from a place in the buffer or at its end, leave just that
+-- such calls, from a place in the buffer or at its end, leave it so
 abbrev pub AllWritten : Type 0
 AllWritten =
     (es : List Event) (before : List ℕ) (place : ℕ) (after : List ℕ) (last : ℕ)
@@ -250,11 +251,71 @@ pub record Writable (before : List ℕ) (place : ℕ) (es : List Event) : Type 0
   pub last : ℕ
   pub calls : WritesAll before place es after last
 
--- there are exactly when every event is known and their bytes fit between the place and the buffer's end
+-- there are such calls exactly when every event is known and their bytes fit from the place on
 abbrev pub WritableExactly : Type 0
 WritableExactly =
     (es : List Event) (before : List ℕ) (place : ℕ) → place ≤ length before
     → Writable before place es ↔ (AllKnown es × (place + length (traceBytes es) ≤ length before))
+
+-- ---- calls of a reader (proofs/Calls)
+
+-- a fault is told with the reader's place, its event is zero, and the reader is as it was
+pub record KeptAtFault (before : Reader) (r : EventRead) (at : ℕ) (after : Reader) : Type 0 where
+  pub first : at ≡ before .place
+  pub zeros : eventGiven (tells r) ≡ eventOf 0 []
+  pub stays : after ≡ before
+
+-- a call that gives a fault gives a zero event and does not move the reader
+abbrev pub FaultStays : Type 0
+FaultStays =
+    (before : Reader) (r : EventRead) (after : Reader) (n at : ℕ)
+    → TakesNext before r after → tells r ≡ reading.refused n at → KeptAtFault before r at after
+
+-- calls of `next`, one after the other, take a reader to another; their answers are listed
+pub data Calls : Reader → List EventRead → Reader → Type 0 where
+  uncalled : {reader : Reader} → Calls reader [] reader
+  called :
+      {before middle after : Reader} {r : EventRead} {rs : List EventRead}
+      → TakesNext before r middle → Calls middle rs after → Calls before (r ∷ rs) after
+
+-- what is said is no event: the trace's end or a fault
+abbrev pub NoEvent : Told → Type 0
+NoEvent (event e next) = ⊥
+NoEvent end = Unit
+NoEvent (reading.refused n at) = Unit
+
+-- each later answer is the same, its event is zero, and the reader is as it was
+pub record Stopped (before : Reader) (r : EventRead) (rs : List EventRead) (after : Reader) : Type 0 where
+  pub same : rs ≡ replicate (length rs) r
+  pub zeros : eventGiven (tells r) ≡ eventOf 0 []
+  pub stays : after ≡ before
+
+-- once a call gives no event, no later call gives anything else or moves the reader
+abbrev pub StaysPut : Type 0
+StaysPut =
+    (before after : Reader) (r : EventRead) (rs : List EventRead)
+    → Calls before (r ∷ rs) after → NoEvent (tells r) → Stopped before r rs after
+
+-- the answers are events read end to end from a place on, each with the place after it; the last place is `last`
+pub data GivesEvents (s : List ℕ) : ℕ → List EventRead → List Event → ℕ → Type 0 where
+  nothing : {place : ℕ} → GivesEvents s place [] [] place
+  given :
+      {e : Event} {es : List Event} {rs : List EventRead} {place next last : ℕ}
+      → readEvent s place ≡ event e next → GivesEvents s next rs es last
+      → GivesEvents s place (Known e next ∷ rs) (e ∷ es) last
+
+-- k answers are the first k events of a list, and reading on from where the reader stands gives the others
+pub record FirstGiven (s : List ℕ) (es : List Event) (rs : List EventRead) (after : Reader) : Type 0 where
+  pub answers : GivesEvents s 0 rs (take (length rs) es) (after .place)
+  pub events : map (λ r. eventGiven (tells r)) rs ≡ take (length rs) es
+  pub others : ReadsAll s (after .place) (drop (length rs) es)
+
+-- the first k calls of a new reader give the first k events of a trace that is read to its end without fault
+abbrev pub FirstEvents : Type 0
+FirstEvents =
+    (trace : RefT (List ℕ)) (start after : Reader) (es : List Event) (rs : List EventRead)
+    → StartsReader trace start → ReadsAll (now trace) 0 es → Calls start rs after → length rs ≤ length es
+    → FirstGiven (now trace) es rs after
 
 -- ---- one form for each event (proofs/OneForm, which nothing else cites: padded numbers will remove it)
 

@@ -5,10 +5,22 @@ ghost use mathlib.Core.Path.{_≡_};
 ghost use lib.ListN.{length};
 ghost use Rattle.event.specs.Table.{knownOf};
 ghost use Rattle.trace.specs.Writing.{allNumbers, eventBytes};
-ghost use Rattle.trace.specs.Contracts.{ReadsArguments, ReadsEvent, FillsBuffer, WritesEvent, HasRoom, ReachesPlace, GivesEvent, StartsReader, TakesNext};
+ghost use Rattle.trace.specs.Contracts.{ReadsArguments, ReadsEvent, ReachesPlace, GivesEvent, StartsReader, TakesNext};
+ghost use Rattle.trace.specs.Contracts.{HasRoom, FillsBuffer, WritesEvent};
 use event::Event;
 use number::NumberRead;
 use number::NumberWritten;
+
+// What is given where there is no event.
+const NO_EVENT: Event = Event {
+    code: 0,
+    first: 0,
+    second: 0,
+    third: 0,
+    fourth: 0,
+    fifth: 0,
+    sixth: 0,
+};
 
 // What stands at a place: an event and the place after it, the end of the trace, or why there is none.
 // A refusal has the place of the event's first byte.
@@ -27,17 +39,6 @@ pub enum EventWritten {
     BadEvent,
     NoRoom,
 }
-
-// What is given where there is no event.
-const NO_EVENT: Event = Event {
-    code: 0,
-    first: 0,
-    second: 0,
-    third: 0,
-    fourth: 0,
-    fifth: 0,
-    sixth: 0,
-};
 
 // A lent trace together with the place reached in it.
 pub struct Reader<'a> {
