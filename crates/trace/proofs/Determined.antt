@@ -1,13 +1,14 @@
 -- Each answer says one thing, so a contract that gives what is said gives the answer.
 use mathlib.Core.List.{[], _∷_}
 use mathlib.Core.Path.{_≡_, refl, sym, ap, _∙_}
+use denote.Ref.{now}
 use Rattle.table.specs.Choice.{_⇒_, rows}
 use Rattle.table.specs.Refusals.{badEvent, cut, overlong}
 use Rattle.trace.specs.Reading.{Told, event, end, tells}
 use Rattle.trace.specs.Reading as reading
 use Rattle.trace.specs.Writing.{ToldWritten, wrote, tellsWritten}
 use Rattle.trace.specs.Writing as writing
-use Rattle.trace.specs.Laws.{ReadTellsOnce, WrittenTellsOnce, ReadDetermined, WriteDetermined, StartDetermined, MoveDetermined}
+use Rattle.trace.specs.Laws.{ReadTellsOnce, WrittenTellsOnce, ReadDetermined, PlaceDetermined, GivenDetermined, WriteDetermined, StartDetermined, NextDetermined}
 use Rattle.trace.specs.declared.EventRead.{EventRead}
 use Rattle.trace.specs.declared.EventRead.the-variants as read
 use Rattle.trace.specs.declared.EventWritten.{EventWritten}
@@ -48,15 +49,24 @@ written-tells-once r q e = sym (answers-written r) ∙ ap answer-written e ∙ a
 pub read-determined : ReadDetermined
 read-determined s place r q a b = read-tells-once r q (a ∙ sym b)
 
+pub place-determined : PlaceDetermined
+place-determined read place r q a b = a ∙ sym b
+
+pub given-determined : GivenDetermined
+given-determined read r q a b = a ∙ sym b
+
 pub write-determined : WriteDetermined
 write-determined e before place r q after later a b = (written-tells-once r q (a .says ∙ sym (b .says)), a .bytes ∙ sym (b .bytes))
 
 -- a reader is what it holds and its place
-same-reader : {r q : Reader} → r .trace ≡ q .trace → r .place ≡ q .place → r ≡ q
+pub same-reader : {r q : Reader} → r .trace ≡ q .trace → r .place ≡ q .place → r ≡ q
 same-reader a b = λ i. record { trace = a i; place = b i }
 
 pub start-determined : StartDetermined
 start-determined trace r q a b = same-reader (a .holds ∙ sym (b .holds)) (a .first ∙ sym (b .first))
 
-pub move-determined : MoveDetermined
-move-determined reader place r q a b = same-reader (a .holds ∙ sym (b .holds)) (a .there ∙ sym (b .there))
+pub next-determined : NextDetermined
+next-determined before r q after later a b = (
+  read-determined (now (before .trace)) (before .place) r q (a .says) (b .says),
+  same-reader (a .holds ∙ sym (b .holds)) (a .there ∙ sym (b .there)),
+)

@@ -8,4 +8,6 @@ pub mod Why
 pub mod Refusals
 pub mod Accepted
 pub mod RoundTrip
+pub mod Written
+pub mod Calls
 pub mod OneForm

@@ -13,18 +13,18 @@ use Rattle.event.specs.declared.Event.{Event}
 use Rattle.event.specs.declared.Range.{Range}
 use Rattle.trace.specs.Reading.{eventOf}
 use Rattle.trace.specs.Writing.{bytesOf, eventBytes, traceBytes}
-use Rattle.trace.specs.Laws.{ReadsAll, ended, taken, OneForm, TraceOneForm, SameBytes}
+use Rattle.trace.specs.Laws.{ArgumentsStand, none, one, ReadsAll, ended, taken, OneForm, TraceOneForm, SameBytes}
 use Rattle.trace.proofs.Known.{sixOf, at-most-six}
-use Rattle.trace.proofs.Why.{Arguments, none, one, because}
+use Rattle.trace.proofs.Why.{because}
 use Rattle.trace.proofs.RoundTrip.{parts}
 
 -- ---- the arguments
 
-lengths : {s : List ℕ} {ranges : List Range} {place : ℕ} {vs : List ℕ} {next : ℕ} → Arguments s ranges place vs next → length vs ≡ length ranges
+lengths : {s : List ℕ} {ranges : List Range} {place : ℕ} {vs : List ℕ} {next : ℕ} → ArgumentsStand s ranges place vs next → length vs ≡ length ranges
 lengths none = refl
 lengths (one e w a) = ap suc (lengths a)
 
-arguments-form : {s : List ℕ} {ranges : List Range} {place : ℕ} {vs : List ℕ} {next : ℕ} → Bytes s → Arguments s ranges place vs next → drop place s ≡ bytesOf vs ++ drop next s
+arguments-form : {s : List ℕ} {ranges : List Range} {place : ℕ} {vs : List ℕ} {next : ℕ} → Bytes s → ArgumentsStand s ranges place vs next → drop place s ≡ bytesOf vs ++ drop next s
 unfolding bytesOf
 arguments-form b none = refl
 arguments-form {s} {next = next} b (one {place = place} {v = v} {after = after} {vs = vs} e w a) =

@@ -2,7 +2,7 @@
 use Prim.Native.Nat.{ℕ, _+_}
 use mathlib.Core.Bool.{true, false}
 use mathlib.Core.List.{List}
-use mathlib.Core.Logic.{_↔_, ⊎-elim}
+use mathlib.Core.Logic.{_↔_, _⊎_, inl, inr, ⊎-elim}
 use mathlib.Core.Path.{_≡_, refl, sym, _∙_}
 use native.Mathlib.Omega.{arith}
 use borrow.Author.Tests.{lt-leb, leb-false}
@@ -18,7 +18,7 @@ use Rattle.event.specs.declared.Range.{Range}
 use Rattle.trace.specs.Reading.{refused, fault, inRange, arguments, readEvent}
 use Rattle.trace.specs.Writing.{wrote, eventBytes, fits}
 use Rattle.trace.specs.Writing as writing
-use Rattle.trace.specs.Laws.{Reaches, Comes, Faulty, CutExactly, OverlongExactly, TooLargeExactly, BadEventExactly, FaultAtFirst, EndExactly, WriterBadEventExactly, NoRoomExactly, RefusedKeeps}
+use Rattle.trace.specs.Laws.{Reaches, Comes, Faulty, CutExactly, OverlongExactly, TooLargeExactly, BadEventExactly, RefusesNoOther, FaultAtFirst, EndExactly, WriterBadEventExactly, NoRoomExactly, RefusedKeeps}
 use Rattle.trace.proofs.First.{at-end, code-fault, code-bad, code-good}
 use Rattle.trace.proofs.Why.{Stops, unread, outside, because}
 
@@ -75,6 +75,13 @@ bad-event-exactly s place = (
       record { range = y .1; at = y .2; comes = y .3; v = o .0; next = o .1; reads = o .2; out = o .3 },
   λ o. come-to (o .comes) (outside (o .reads) (o .out)),
 )
+
+stopped-by : {s : List ℕ} {range : Range} {at n : ℕ} → Stops s range at n → (n ≡ badEvent) ⊎ ((n ≡ cut) ⊎ ((n ≡ overlong) ⊎ (n ≡ tooLarge)))
+stopped-by {s} {at = at} {n} (unread e) = inr (number-laws.refuses-no-other s at n e)
+stopped-by (outside e w) = inl refl
+
+pub refuses-no-other : RefusesNoOther
+refuses-no-other s place n at e = stopped-by (because s place e .4)
 
 pub fault-at-first : FaultAtFirst
 fault-at-first s place n at e = record { first = because s place e .0; zeros = rw e refl; stays = rw e refl }

@@ -85,13 +85,13 @@ wrote-is : {m n : ℕ} → wrote m ≡ wrote n → m ≡ n
 wrote-is e = cc
 
 -- a length is told only of an event that is known and fits
-record Fits (e : Event) (buffer : List ℕ) (place n : ℕ) : Type 0 where
+pub record Fits (e : Event) (buffer : List ℕ) (place n : ℕ) : Type 0 where
   pub known : knownOf e ≡ true
   pub room : place + length (eventBytes e) ≤ length buffer
   pub long : n ≡ length (eventBytes e)
   pub left : bufferAfter e buffer place ≡ sets buffer place (eventBytes e)
 
-fitted : (e : Event) (buffer : List ℕ) (place n : ℕ) → writeEvent e buffer place ≡ wrote n → Fits e buffer place n
+pub fitted : (e : Event) (buffer : List ℕ) (place n : ℕ) → writeEvent e buffer place ≡ wrote n → Fits e buffer place n
 fitted e buffer place n h =
     by-room e buffer place
     (λ k. absurd (refused-not-wrote (rw k at h)))
@@ -104,19 +104,24 @@ read-back e buffer place n h =
     rw (w .left, w .long)
     (event-back e (w .known) (sets buffer place (eventBytes e)) place (drop (place + length (eventBytes e)) buffer) (stored-from buffer (eventBytes e) place (w .room)))
 
+-- what is stored at a place with room leaves the bytes before it and those behind it as they were
+module _ (buffer bytes : List ℕ) (place : ℕ) (room : place + length bytes ≤ length buffer) where
+  pub earlier-kept : take place (sets buffer place bytes) ≡ take place buffer
+  earlier-kept =
+      ap (take place) (sets-eq bytes buffer place room ∙ append-assoc (take place buffer) bytes (drop (place + length bytes) buffer))
+      ∙ take-at (take place buffer) (bytes ++ drop (place + length bytes) buffer) place (length-take-le place buffer (omega arith))
+
+  pub later-kept : drop (place + length bytes) (sets buffer place bytes) ≡ drop (place + length bytes) buffer
+  later-kept = behind (sets buffer place bytes) place bytes (drop (place + length bytes) buffer) (stored-from buffer bytes place room)
+
 pub others-kept : OthersKept
 others-kept e buffer place n h =
     let w = fitted e buffer place n h in
-    let bytes : List ℕ = eventBytes e in
-    rw (w .left, w .long) (
-      ap (take place) (sets-eq bytes buffer place (w .room) ∙ append-assoc (take place buffer) bytes (drop (place + length bytes) buffer))
-          ∙ take-at (take place buffer) (bytes ++ drop (place + length bytes) buffer) place (length-take-le place buffer (omega arith)),
-      behind (sets buffer place bytes) place bytes (drop (place + length bytes) buffer) (stored-from buffer bytes place (w .room)),
-    )
+    rw (w .left, w .long) (earlier-kept buffer (eventBytes e) place (w .room), later-kept buffer (eventBytes e) place (w .room))
 
 -- ---- whole traces
 
-trace-back-from : (es : List Event) → AllKnown es → (s : List ℕ) (place : ℕ) → drop place s ≡ traceBytes es → ReadsAll s place es
+pub trace-back-from : (es : List Event) → AllKnown es → (s : List ℕ) (place : ℕ) → drop place s ≡ traceBytes es → ReadsAll s place es
 unfolding traceBytes
 trace-back-from [] k s place h = ended (at-end s place (omega (arith, simp length-drop at (ap length h))))
 trace-back-from (e ∷ es) k s place h =

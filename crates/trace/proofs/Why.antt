@@ -9,18 +9,10 @@ use Rattle.table.proofs.Laws.{by-test, by-order}
 use Rattle.number.specs.Reading.{value, readNumber}
 use Rattle.number.specs.Reading as number
 use Rattle.event.specs.Table.{argumentsOf, within, codeKnown, codes}
-use Rattle.event.specs.declared.Event.{Event}
 use Rattle.event.specs.declared.Range.{Range}
 use Rattle.trace.specs.Reading.{Told, event, end, refused, Got, got, fault, onwards, arguments, eventOf, readEvent, said}
-use Rattle.trace.specs.Laws.{Reaches, Comes}
+use Rattle.trace.specs.Laws.{ArgumentsStand, none, one, Stands, Reaches, Comes}
 use Rattle.trace.proofs.First.{at-end, code-fault, code-bad, code-good}
-
--- arguments that are read without fault
-pub data Arguments (s : List ℕ) : List Range → ℕ → List ℕ → ℕ → Type 0 where
-  none : {place : ℕ} → Arguments s [] place [] place
-  one :
-      {range : Range} {ranges : List Range} {place v after : ℕ} {vs : List ℕ} {next : ℕ}
-      → readNumber s place ≡ value v after → within range v ≡ true → Arguments s ranges after vs next → Arguments s (range ∷ ranges) place (v ∷ vs) next
 
 -- what stops the reader at a number
 pub data Stops (s : List ℕ) (range : Range) (at : ℕ) : ℕ → Type 0 where
@@ -30,7 +22,7 @@ pub data Stops (s : List ℕ) (range : Range) (at : ℕ) : ℕ → Type 0 where
 -- ---- the arguments
 
 abbrev WhyArguments : (s : List ℕ) → List Range → ℕ → Got (List ℕ) → Type 0
-WhyArguments s ranges place (got vs next) = Arguments s ranges place vs next
+WhyArguments s ranges place (got vs next) = ArgumentsStand s ranges place vs next
 WhyArguments s ranges place (fault n) = (range : Range) × (at : ℕ) × Reaches s ranges place range at × Stops s range at n
 
 module _ (s : List ℕ) (range : Range) (ranges : List Range) (place : ℕ) where
@@ -55,18 +47,8 @@ why-arguments s (range ∷ ranges) place = why-one s range ranges place (readNum
 
 -- ---- the event
 
-pub record Read (s : List ℕ) (place : ℕ) (e : Event) (next : ℕ) : Type 0 where
-  pub code : ℕ
-  pub after : ℕ
-  pub vs : List ℕ
-  pub inside : place < length s
-  pub reads : readNumber s place ≡ value code after
-  pub coded : codeKnown code ≡ true
-  pub rest : Arguments s (argumentsOf code) after vs next
-  pub made : e ≡ eventOf code vs
-
 abbrev pub WhyEvent : List ℕ → ℕ → Told → Type 0
-WhyEvent s place (event e next) = Read s place e next
+WhyEvent s place (event e next) = Stands s place e next
 WhyEvent s place end = length s ≤ place
 WhyEvent s place (refused n first) = (first ≡ place) × (range : Range) × (at : ℕ) × Comes s place range at × Stops s range at n
 

@@ -5,10 +5,10 @@ use mathlib.Core.List.{List}
 use mathlib.Core.Path.{_≡_}
 use lib.ListN.{length}
 use lib.Seq.{sets}
-use denote.Ref.{RefT}
+use denote.Ref.{RefT, now}
 use Rattle.event.specs.Table.{knownOf}
 use Rattle.event.specs.declared.Event.{Event}
-use Rattle.trace.specs.Reading.{afterCode, said, readEvent, tells}
+use Rattle.trace.specs.Reading.{afterCode, said, readEvent, eventGiven, placeReached, tells}
 use Rattle.trace.specs.Writing.{eventBytes, writeEvent, bufferAfter, tellsWritten}
 use Rattle.trace.specs.declared.EventRead.{EventRead}
 use Rattle.trace.specs.declared.EventWritten.{EventWritten}
@@ -18,9 +18,17 @@ use Rattle.trace.specs.declared.Reader.{Reader}
 abbrev pub ReadsArguments : List ℕ → (code place first : ℕ) → EventRead → Type 0
 ReadsArguments s code place first r = tells r ≡ said first (afterCode code s place)
 
--- `read_event` of the slice s at a place
+-- `event_at` of the trace s at a place
 abbrev pub ReadsEvent : List ℕ → ℕ → EventRead → Type 0
 ReadsEvent s place r = tells r ≡ readEvent s place
+
+-- `place_reached` of an answer got at a place
+abbrev pub ReachesPlace : EventRead → ℕ → ℕ → Type 0
+ReachesPlace read place r = r ≡ placeReached place (tells read)
+
+-- `event_given` of an answer
+abbrev pub GivesEvent : EventRead → Event → Type 0
+GivesEvent read r = r ≡ eventGiven (tells read)
 
 -- what `write_numbers` asks: the event is known and its bytes fit
 pub record HasRoom (e : Event) (buffer : List ℕ) (place : ℕ) : Type 0 where
@@ -41,7 +49,8 @@ pub record StartsReader (trace : RefT (List ℕ)) (r : Reader) : Type 0 where
   pub holds : r .trace ≡ trace
   pub first : r .place ≡ 0
 
--- `moved` of a reader to a place: the same trace, at that place
-pub record MovesReader (reader : Reader) (place : ℕ) (r : Reader) : Type 0 where
-  pub holds : r .trace ≡ reader .trace
-  pub there : r .place ≡ place
+-- `next` of the reader `before`, which leaves it as `after`: what stands at its place, and the place reached
+pub record TakesNext (before : Reader) (r : EventRead) (after : Reader) : Type 0 where
+  pub says : ReadsEvent (now (before .trace)) (before .place) r
+  pub holds : after .trace ≡ before .trace
+  pub there : after .place ≡ placeReached (before .place) (readEvent (now (before .trace)) (before .place))

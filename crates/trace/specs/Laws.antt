@@ -1,24 +1,27 @@
 -- What is promised of events of a trace beyond the contracts. Each statement is proved under its own name, in the file of proofs/ that stands beside its heading.
 use Prim.Native.Nat.{ℕ, _+_, _≤_, _<_}
 use mathlib.Core.Bool.{true, false}
-use mathlib.Core.List.{List, [], _∷_, _++_}
-use mathlib.Core.Logic.{_↔_}
+use mathlib.Core.List.{List, [], _∷_, _++_, map}
+use mathlib.Core.Logic.{_↔_, _⊎_}
 use mathlib.Core.Path.{_≡_}
-use lib.ListN.{length, take, drop}
-use denote.Ref.{RefT}
+use lib.ListN.{length, take, drop, replicate}
+use lib.Seq.{sets}
+use denote.Ref.{RefT, now}
 use Rattle.table.specs.Refusals.{badEvent, cut, overlong, tooLarge, noRoom}
 use Rattle.number.specs.Reading.{value, readNumber}
 use Rattle.number.specs.Laws.{EndsEarly, EndsInZero, TenthTooLarge, Bytes}
 use Rattle.event.specs.Table.{argumentsOf, within, codeKnown, knownOf, codes}
 use Rattle.event.specs.declared.Event.{Event}
 use Rattle.event.specs.declared.Range.{Range}
-use Rattle.trace.specs.Reading.{event, end, eventOf, readEvent, eventGiven, placeReached, tells}
+use Rattle.trace.specs.Reading.{Told, event, end, eventOf, readEvent, eventGiven, placeReached, tells}
 use Rattle.trace.specs.Reading as reading
 use Rattle.trace.specs.Writing.{wrote, eventBytes, traceBytes, writeEvent, bufferAfter, lengthGiven, tellsWritten}
 use Rattle.trace.specs.Writing as writing
-use Rattle.trace.specs.Contracts.{ReadsEvent, WritesEvent, StartsReader, MovesReader}
+use Rattle.trace.specs.Contracts.{ReadsEvent, ReachesPlace, GivesEvent, WritesEvent, StartsReader, TakesNext}
 use Rattle.trace.specs.declared.EventRead.{EventRead}
+use Rattle.trace.specs.declared.EventRead.the-variants.{Event as Known}
 use Rattle.trace.specs.declared.EventWritten.{EventWritten}
+use Rattle.trace.specs.declared.EventWritten.the-variants.{Length}
 use Rattle.trace.specs.declared.Reader.{Reader}
 
 -- ---- each answer says one thing (proofs/Determined)
@@ -31,9 +34,17 @@ ReadTellsOnce = (r q : EventRead) → tells r ≡ tells q → r ≡ q
 abbrev pub WrittenTellsOnce : Type 0
 WrittenTellsOnce = (r q : EventWritten) → tellsWritten r ≡ tellsWritten q → r ≡ q
 
--- two results that `read_event` may give coincide; `next` and `event_at` promise the same
+-- two results that `event_at` may give coincide
 abbrev pub ReadDetermined : Type 0
 ReadDetermined = (s : List ℕ) (place : ℕ) (r q : EventRead) → ReadsEvent s place r → ReadsEvent s place q → r ≡ q
+
+-- two results that `place_reached` may give coincide
+abbrev pub PlaceDetermined : Type 0
+PlaceDetermined = (read : EventRead) (place r q : ℕ) → ReachesPlace read place r → ReachesPlace read place q → r ≡ q
+
+-- two results that `event_given` may give coincide
+abbrev pub GivenDetermined : Type 0
+GivenDetermined = (read : EventRead) (r q : Event) → GivesEvent read r → GivesEvent read q → r ≡ q
 
 -- two results that `write_event` may give coincide, and so do the buffers that it may leave
 abbrev pub WriteDetermined : Type 0
@@ -45,9 +56,11 @@ WriteDetermined =
 abbrev pub StartDetermined : Type 0
 StartDetermined = (trace : RefT (List ℕ)) (r q : Reader) → StartsReader trace r → StartsReader trace q → r ≡ q
 
--- two readers that `moved` may give coincide
-abbrev pub MoveDetermined : Type 0
-MoveDetermined = (reader : Reader) (place : ℕ) (r q : Reader) → MovesReader reader place r → MovesReader reader place q → r ≡ q
+-- two results that `next` may give coincide, and so do the readers that it may leave
+abbrev pub NextDetermined : Type 0
+NextDetermined =
+    (before : Reader) (r q : EventRead) (after later : Reader)
+    → TakesNext before r after → TakesNext before q later → (r ≡ q) × (after ≡ later)
 
 -- ---- one event (proofs/RoundTrip, proofs/Accepted)
 
@@ -60,6 +73,29 @@ abbrev pub OthersKept : Type 0
 OthersKept =
     (e : Event) (buffer : List ℕ) (place n : ℕ) → writeEvent e buffer place ≡ wrote n
     → (take place (bufferAfter e buffer place) ≡ take place buffer) × (drop (place + n) (bufferAfter e buffer place) ≡ drop (place + n) buffer)
+
+-- numbers vs, each read and in its range, stand end to end from a place on; `next` is the place after the last
+pub data ArgumentsStand (s : List ℕ) : List Range → ℕ → List ℕ → ℕ → Type 0 where
+  none : {place : ℕ} → ArgumentsStand s [] place [] place
+  one :
+      {range : Range} {ranges : List Range} {place v after : ℕ} {vs : List ℕ} {next : ℕ}
+      → readNumber s place ≡ value v after → within range v ≡ true → ArgumentsStand s ranges after vs next
+      → ArgumentsStand s (range ∷ ranges) place (v ∷ vs) next
+
+-- an event stands at a place inside the trace: a known code, then its arguments; `next` is the place after them
+pub record Stands (s : List ℕ) (place : ℕ) (e : Event) (next : ℕ) : Type 0 where
+  pub code : ℕ
+  pub after : ℕ
+  pub vs : List ℕ
+  pub inside : place < length s
+  pub reads : readNumber s place ≡ value code after
+  pub coded : codeKnown code ≡ true
+  pub rest : ArgumentsStand s (argumentsOf code) after vs next
+  pub made : e ≡ eventOf code vs
+
+-- an event is read exactly where it stands
+abbrev pub EventExactly : Type 0
+EventExactly = (s : List ℕ) (place : ℕ) (e : Event) (next : ℕ) → readEvent s place ≡ event e next ↔ Stands s place e next
 
 -- an event read is one that `known` accepts
 abbrev pub ReadKnown : Type 0
@@ -127,6 +163,12 @@ pub record OutOfRange (s : List ℕ) (place : ℕ) : Type 0 where
 abbrev pub BadEventExactly : Type 0
 BadEventExactly = (s : List ℕ) (place : ℕ) → readEvent s place ≡ reading.refused badEvent place ↔ OutOfRange s place
 
+-- the reader gives no other refusal
+abbrev pub RefusesNoOther : Type 0
+RefusesNoOther =
+    (s : List ℕ) (place n at : ℕ) → readEvent s place ≡ reading.refused n at
+    → (n ≡ badEvent) ⊎ ((n ≡ cut) ⊎ ((n ≡ overlong) ⊎ (n ≡ tooLarge)))
+
 -- every fault is told with the place of the event's first byte, gives a zero event and does not move the place
 pub record AtFirstByte (s : List ℕ) (place at : ℕ) : Type 0 where
   pub first : at ≡ place
@@ -177,6 +219,103 @@ TraceBack = (es : List Event) → AllKnown es → ReadsAll (traceBytes es) 0 es
 -- a trace is read to one list of events only
 abbrev pub ReadsOnce : Type 0
 ReadsOnce = (s : List ℕ) (place : ℕ) (es fs : List Event) → ReadsAll s place es → ReadsAll s place fs → es ≡ fs
+
+-- ---- a trace written by calls of `write_event` (proofs/Written)
+
+-- calls that write a list's events, each at the place after the last, take `before` to `after`, the place to `last`
+pub data WritesAll : (before : List ℕ) (place : ℕ) → List Event → (after : List ℕ) (last : ℕ) → Type 0 where
+  done : {buffer : List ℕ} {place : ℕ} → WritesAll buffer place [] buffer place
+  put :
+      {e : Event} {es : List Event} {before middle after : List ℕ} {place n last : ℕ}
+      → WritesEvent e before place (Length n) middle → WritesAll middle (place + n) es after last
+      → WritesAll before place (e ∷ es) after last
+
+-- the bytes of the events stand at the place, every other byte is as it was, and what was written reads back
+pub record WrittenOut (before : List ℕ) (place : ℕ) (es : List Event) (after : List ℕ) (last : ℕ) : Type 0 where
+  pub bytes : after ≡ sets before place (traceBytes es)
+  pub far : last ≡ place + length (traceBytes es)
+  pub room : last ≤ length before
+  pub earlier : take place after ≡ take place before
+  pub later : drop last after ≡ drop last before
+  pub back : ReadsAll (take last after) place es
+
+-- such calls, from a place in the buffer or at its end, leave it so
+abbrev pub AllWritten : Type 0
+AllWritten =
+    (es : List Event) (before : List ℕ) (place : ℕ) (after : List ℕ) (last : ℕ)
+    → place ≤ length before → WritesAll before place es after last → WrittenOut before place es after last
+
+-- there are such calls: none is refused
+pub record Writable (before : List ℕ) (place : ℕ) (es : List Event) : Type 0 where
+  pub after : List ℕ
+  pub last : ℕ
+  pub calls : WritesAll before place es after last
+
+-- there are such calls exactly when every event is known and their bytes fit from the place on
+abbrev pub WritableExactly : Type 0
+WritableExactly =
+    (es : List Event) (before : List ℕ) (place : ℕ) → place ≤ length before
+    → Writable before place es ↔ (AllKnown es × (place + length (traceBytes es) ≤ length before))
+
+-- ---- calls of a reader (proofs/Calls)
+
+-- a fault is told with the reader's place, its event is zero, and the reader is as it was
+pub record KeptAtFault (before : Reader) (r : EventRead) (at : ℕ) (after : Reader) : Type 0 where
+  pub first : at ≡ before .place
+  pub zeros : eventGiven (tells r) ≡ eventOf 0 []
+  pub stays : after ≡ before
+
+-- a call that gives a fault gives a zero event and does not move the reader
+abbrev pub FaultStays : Type 0
+FaultStays =
+    (before : Reader) (r : EventRead) (after : Reader) (n at : ℕ)
+    → TakesNext before r after → tells r ≡ reading.refused n at → KeptAtFault before r at after
+
+-- calls of `next`, one after the other, take a reader to another; their answers are listed
+pub data Calls : Reader → List EventRead → Reader → Type 0 where
+  uncalled : {reader : Reader} → Calls reader [] reader
+  called :
+      {before middle after : Reader} {r : EventRead} {rs : List EventRead}
+      → TakesNext before r middle → Calls middle rs after → Calls before (r ∷ rs) after
+
+-- what is said is no event: the trace's end or a fault
+abbrev pub NoEvent : Told → Type 0
+NoEvent (event e next) = ⊥
+NoEvent end = Unit
+NoEvent (reading.refused n at) = Unit
+
+-- each later answer is the same, its event is zero, and the reader is as it was
+pub record Stopped (before : Reader) (r : EventRead) (rs : List EventRead) (after : Reader) : Type 0 where
+  pub same : rs ≡ replicate (length rs) r
+  pub zeros : eventGiven (tells r) ≡ eventOf 0 []
+  pub stays : after ≡ before
+
+-- once a call gives no event, no later call gives anything else or moves the reader
+abbrev pub StaysPut : Type 0
+StaysPut =
+    (before after : Reader) (r : EventRead) (rs : List EventRead)
+    → Calls before (r ∷ rs) after → NoEvent (tells r) → Stopped before r rs after
+
+-- the answers are events read end to end from a place on, each with the place after it; the last place is `last`
+pub data GivesEvents (s : List ℕ) : ℕ → List EventRead → List Event → ℕ → Type 0 where
+  nothing : {place : ℕ} → GivesEvents s place [] [] place
+  given :
+      {e : Event} {es : List Event} {rs : List EventRead} {place next last : ℕ}
+      → readEvent s place ≡ event e next → GivesEvents s next rs es last
+      → GivesEvents s place (Known e next ∷ rs) (e ∷ es) last
+
+-- k answers are the first k events of a list, and reading on from where the reader stands gives the others
+pub record FirstGiven (s : List ℕ) (es : List Event) (rs : List EventRead) (after : Reader) : Type 0 where
+  pub answers : GivesEvents s 0 rs (take (length rs) es) (after .place)
+  pub events : map (λ r. eventGiven (tells r)) rs ≡ take (length rs) es
+  pub others : ReadsAll s (after .place) (drop (length rs) es)
+
+-- the first k calls of a new reader give the first k events of a trace that is read to its end without fault
+abbrev pub FirstEvents : Type 0
+FirstEvents =
+    (trace : RefT (List ℕ)) (start after : Reader) (es : List Event) (rs : List EventRead)
+    → StartsReader trace start → ReadsAll (now trace) 0 es → Calls start rs after → length rs ≤ length es
+    → FirstGiven (now trace) es rs after
 
 -- ---- one form for each event (proofs/OneForm, which nothing else cites: padded numbers will remove it)
 

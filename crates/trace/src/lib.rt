@@ -5,10 +5,22 @@ ghost use mathlib.Core.Path.{_≡_};
 ghost use lib.ListN.{length};
 ghost use Rattle.event.specs.Table.{knownOf};
 ghost use Rattle.trace.specs.Writing.{allNumbers, eventBytes};
-ghost use Rattle.trace.specs.Contracts.{ReadsArguments, ReadsEvent, FillsBuffer, WritesEvent, HasRoom, StartsReader, MovesReader};
+ghost use Rattle.trace.specs.Contracts.{ReadsArguments, ReadsEvent, ReachesPlace, GivesEvent, StartsReader, TakesNext};
+ghost use Rattle.trace.specs.Contracts.{HasRoom, FillsBuffer, WritesEvent};
 use event::Event;
 use number::NumberRead;
 use number::NumberWritten;
+
+// What is given where there is no event.
+const NO_EVENT: Event = Event {
+    code: 0,
+    first: 0,
+    second: 0,
+    third: 0,
+    fourth: 0,
+    fifth: 0,
+    sixth: 0,
+};
 
 // What stands at a place: an event and the place after it, the end of the trace, or why there is none.
 // A refusal has the place of the event's first byte.
@@ -75,18 +87,18 @@ fn read_arguments(s: &[u8], code: u64, place: usize, first: usize) -> EventRead
     EventRead::Event { event, next }
 }
 
-// The event at a place of a trace; any place is taken, and past the last byte the trace has ended.
-fn read_event(s: &[u8], place: usize) -> EventRead
-    ensures { λ r. ⌜ ReadsEvent (now (s .entry)) place r ⌝ }
+// What stands at a place of a trace; any place is taken, and past the last byte the trace has ended.
+pub fn event_at(trace: &[u8], place: usize) -> EventRead
+    ensures { λ r. ⌜ ReadsEvent (now (trace .entry)) place r ⌝ }
 {
-    if s.len() <= place {
+    if trace.len() <= place {
         return EventRead::End;
     }
-    match number::read_number(s, place) {
+    match number::read_number(trace, place) {
         NumberRead::Value { value, next } => {
             // An unknown code has no arguments to read.
             if event::code_known(value) {
-                read_arguments(s, value, next, place)
+                read_arguments(trace, value, next, place)
             } else {
                 EventRead::BadEvent(place)
             }
@@ -97,6 +109,34 @@ fn read_event(s: &[u8], place: usize) -> EventRead
     }
 }
 
+// The place that reading at `place` has reached: only an event moves it.
+pub fn place_reached(read: EventRead, place: usize) -> usize
+    ensures { λ r. ⌜ ReachesPlace read place r ⌝ }
+{
+    match read {
+        EventRead::Event { event: _, next } => next,
+        EventRead::End => place,
+        EventRead::BadEvent(_) => place,
+        EventRead::Cut(_) => place,
+        EventRead::Overlong(_) => place,
+        EventRead::TooLarge(_) => place,
+    }
+}
+
+// The event that reading gives: at the end and on a fault a zero event.
+pub fn event_given(read: EventRead) -> Event
+    ensures { λ r. ⌜ GivesEvent read r ⌝ }
+{
+    match read {
+        EventRead::Event { event, next: _ } => event,
+        EventRead::End => NO_EVENT,
+        EventRead::BadEvent(_) => NO_EVENT,
+        EventRead::Cut(_) => NO_EVENT,
+        EventRead::Overlong(_) => NO_EVENT,
+        EventRead::TooLarge(_) => NO_EVENT,
+    }
+}
+
 // A reader at the first byte of a trace.
 pub fn new<'a>(trace: &'a [u8]) -> Reader<'a>
     ensures { λ r. ⌜ StartsReader (trace .entry) r ⌝ }
@@ -104,28 +144,14 @@ pub fn new<'a>(trace: &'a [u8]) -> Reader<'a>
     Reader { trace, place: 0 }
 }
 
-// What stands at a reader's place.
-pub fn next<'a>(reader: Reader<'a>) -> EventRead
-    ensures { λ r. ⌜ ReadsEvent (now (reader .entry .trace)) (reader .entry .place) r ⌝ }
+// What stands at a reader's place; after an event the reader stands behind it.
+pub fn next<'a>(reader: &mut Reader<'a>) -> EventRead
+    ensures { λ r. ⌜ TakesNext (now (reader .entry)) r (now (reader .exit)) ⌝ }
 {
-    read_event(reader.trace, reader.place)
-}
-
-// The reader moved on to a place, the one after an event that was read.
-pub fn moved<'a>(reader: Reader<'a>, place: usize) -> Reader<'a>
-    ensures { λ r. ⌜ MovesReader (reader .entry) place r ⌝ }
-{
-    Reader {
-        trace: reader.trace,
-        place,
-    }
-}
-
-// What stands at a place of a trace, through a reader: for callers that hold none.
-pub fn event_at(trace: &[u8], place: usize) -> EventRead
-    ensures { λ r. ⌜ ReadsEvent (now (trace .entry)) place r ⌝ }
-{
-    next(moved(new(trace), place))
+    let place = reader.place;
+    let read = event_at(reader.trace, place);
+    reader.place = place_reached(read, place);
+    read
 }
 
 // An event's code and its six arguments, also those that it lacks.
