@@ -11,6 +11,7 @@ use Rattle.table.specs.Refusals.{badState, badEvent, wrongProtocol}
 use Rattle.table.proofs.Laws.{by-test}
 use Rattle.event.specs.Table.{knownOf}
 use Rattle.event.specs.declared.Event.{Event}
+use Rattle.trace.specs.Laws.{Passes, here, on}
 use Rattle.trace.proofs.Accepted.{read-known}
 use Rattle.phy.specs.State.{freshPhy, validOf}
 use Rattle.phy.specs.Step.{stepOf}
@@ -23,7 +24,7 @@ use Rattle.ledger.specs.Log.{Entry, answered, many}
 use Rattle.ledger.specs.Demand.{logOf, phyAfter, oneIfWaiting}
 use Rattle.ledger.proofs.Demand.{demand3}
 use Rattle.run.specs.Running.{taking, byteOf, bytesOf, runOf}
-use Rattle.run.specs.Laws.{Passes, here, on, NeitherOneNorTwo, NoOneNorTwo, answersIn, answersOf, AnswersInOrder, RunsLawful}
+use Rattle.run.specs.Laws.{NeitherOneNorTwo, NoOneNorTwo, answersIn, answersOf, AnswersInOrder, RunsLawful}
 use Rattle.run.proofs.Bytes.{answer-least, none-or-answer}
 use Rattle.run.proofs.Stopping.{stops-well-always}
 use Rattle.run.proofs.Written.{writes-taken}

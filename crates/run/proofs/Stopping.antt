@@ -8,10 +8,10 @@ use Rattle.table.proofs.Laws.{by-order}
 use Rattle.event.specs.declared.Event.{Event}
 use Rattle.trace.specs.Reading as reading
 use Rattle.trace.specs.Reading.{readEvent}
-use Rattle.trace.specs.Laws.{ReadsAll, ended, taken}
+use Rattle.trace.specs.Laws.{here, on, ReadsAll, ended, taken}
 use Rattle.trace.proofs.Refusals.{end-exactly, fault-at-first}
 use Rattle.run.specs.Running.{Halt, atEnd, Course, stops, first, taking}
-use Rattle.run.specs.Laws.{here, on, Why, spent, faulty, StopsWell, StopsWellAlways, TakesAll}
+use Rattle.run.specs.Laws.{Why, spent, faulty, StopsWell, StopsWellAlways, TakesAll}
 use Rattle.run.specs.Laws as laws
 use Rattle.run.proofs.Taking.{taking-ended, taking-spent, taking-event, taking-fault}
 

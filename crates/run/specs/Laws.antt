@@ -10,7 +10,7 @@ use Rattle.table.specs.Refusals.{badState, badEvent, noRoom}
 use Rattle.event.specs.declared.Event.{Event}
 use Rattle.trace.specs.Reading as reading
 use Rattle.trace.specs.Reading.{readEvent}
-use Rattle.trace.specs.Laws.{ReadsAll}
+use Rattle.trace.specs.Laws.{Passes, ReadsAll}
 use Rattle.phy.specs.State.{freshPhy, validOf}
 use Rattle.phy.specs.Step.{stepOf}
 use Rattle.phy.specs.declared.Phy.{Phy}
@@ -56,11 +56,6 @@ abbrev pub RefusedKeeps : Type 0
 RefusedKeeps = (p : Phy) (s : List ℕ) (budget : ℕ) (buffer : List ℕ) (n : ℕ) → runOf p s budget buffer .halt ≡ refused n → Untouched p s budget buffer
 
 -- ---- which events are taken, and how taking them stops (proofs/Stopping)
-
--- reading these events one after the other from a place on comes to the place `last`
-pub data Passes (s : List ℕ) : ℕ → List Event → ℕ → Type 0 where
-  here : {place : ℕ} → Passes s place [] place
-  on : {place : ℕ} {e : Event} {next : ℕ} {es : List Event} {last : ℕ} → readEvent s place ≡ reading.event e next → Passes s next es last → Passes s place (e ∷ es) last
 
 -- why a course stops at the place `last` once `count` events are taken: the trace has ended; else the budget is spent; else there is a fault
 pub data Why (s : List ℕ) (budget count last : ℕ) : Halt → Type 0 where

@@ -8,7 +8,7 @@ use denote.Ref.{now}
 use Rattle.event.specs.declared.Event.{Event}
 use Rattle.trace.specs.Reading.{Told, event, end, refused, eventOf, eventGiven, placeReached, tells}
 use Rattle.trace.specs.Contracts.{ReadsEvent, TakesNext}
-use Rattle.trace.specs.Laws.{ReadsAll, ended, taken, Calls, uncalled, called, NoEvent, GivesEvents, nothing, given, FaultStays, StaysPut, FirstEvents}
+use Rattle.trace.specs.Laws.{Passes, here, on, Calls, uncalled, called, NoEvent, GivesEvents, nothing, given, FaultStays, StaysPut, FirstEvents}
 use Rattle.trace.specs.declared.EventRead.{EventRead}
 use Rattle.trace.specs.declared.EventRead.the-variants.{Event as Known}
 use Rattle.trace.specs.declared.Reader.{Reader}
@@ -59,17 +59,20 @@ events-of : {s : List ℕ} {place : ℕ} {rs : List EventRead} {es : List Event}
 events-of nothing = refl
 events-of (given {e} h g) = ap (λ (l : List Event). e ∷ l) (events-of g)
 
-first-from : (rs : List EventRead) {start after : Reader} {es : List Event} → ReadsAll (now (start .trace)) (start .place) es → Calls start rs after → length rs ≤ length es
-    → GivesEvents (now (start .trace)) (start .place) rs (take (length rs) es) (after .place) × ReadsAll (now (start .trace)) (after .place) (drop (length rs) es)
-first-from [] a uncalled h = (nothing, a)
-first-from (r ∷ rs) (ended a) (called t c) h = absurd (omega arith)
-first-from (r ∷ rs) {start} {after} (taken {e = e} {next} a on) (called t c) h =
+first-from :
+    (rs : List EventRead) {start after : Reader} {es : List Event} {last : ℕ}
+    → Passes (now (start .trace)) (start .place) es last → Calls start rs after → length rs ≤ length es
+    → GivesEvents (now (start .trace)) (start .place) rs (take (length rs) es) (after .place)
+    × Passes (now (start .trace)) (after .place) (drop (length rs) es) last
+first-from [] p uncalled h = (nothing, p)
+first-from (r ∷ rs) here (called t c) h = absurd (omega arith)
+first-from (r ∷ rs) {start} {after} (on {e = e} {next} a p) (called t c) h =
     let there = same-reader {q = record { trace = start .trace; place = next }} (t .holds) (t .there ∙ ap (placeReached (start .place)) a) in
-    let more = first-from rs on (subst (λ (m : Reader). Calls m rs after) there c) (omega arith) in
+    let more = first-from rs p (subst (λ (m : Reader). Calls m rs after) there c) (omega arith) in
     rw (read-tells-once r (Known e next) (t .says ∙ a)) (given a (more .0), more .1)
 
 pub first-events : FirstEvents
-first-events trace start after es rs new a c h =
+first-events trace start after es last rs new p c h =
     let at-first = same-reader {q = record { trace = trace; place = 0 }} (new .holds) (new .first) in
-    let g = first-from rs a (subst (λ (m : Reader). Calls m rs after) at-first c) h in
+    let g = first-from rs p (subst (λ (m : Reader). Calls m rs after) at-first c) h in
     record { answers = g .0; events = events-of (g .0); others = g .1 }

@@ -202,6 +202,13 @@ RefusedKeeps =
 
 -- ---- whole traces (proofs/RoundTrip)
 
+-- reading these events one after the other from a place on comes to the place `last`
+pub data Passes (s : List ℕ) : ℕ → List Event → ℕ → Type 0 where
+  here : {place : ℕ} → Passes s place [] place
+  on :
+      {place : ℕ} {e : Event} {next : ℕ} {es : List Event} {last : ℕ}
+      → readEvent s place ≡ event e next → Passes s next es last → Passes s place (e ∷ es) last
+
 -- reading on from a place gives these events and then the trace's end, with no fault
 pub data ReadsAll (s : List ℕ) : ℕ → List Event → Type 0 where
   ended : {place : ℕ} → readEvent s place ≡ end → ReadsAll s place []
@@ -304,18 +311,18 @@ pub data GivesEvents (s : List ℕ) : ℕ → List EventRead → List Event → 
       → readEvent s place ≡ event e next → GivesEvents s next rs es last
       → GivesEvents s place (Known e next ∷ rs) (e ∷ es) last
 
--- k answers are the first k events of a list, and reading on from where the reader stands gives the others
-pub record FirstGiven (s : List ℕ) (es : List Event) (rs : List EventRead) (after : Reader) : Type 0 where
+-- k answers are the first k events of a list, and the others stand from the reader's place on
+pub record FirstGiven (s : List ℕ) (es : List Event) (last : ℕ) (rs : List EventRead) (after : Reader) : Type 0 where
   pub answers : GivesEvents s 0 rs (take (length rs) es) (after .place)
   pub events : map (λ r. eventGiven (tells r)) rs ≡ take (length rs) es
-  pub others : ReadsAll s (after .place) (drop (length rs) es)
+  pub others : Passes s (after .place) (drop (length rs) es) last
 
--- the first k calls of a new reader give the first k events of a trace that is read to its end without fault
+-- k calls of a new reader give the first k events of the trace, whatever stands behind these
 abbrev pub FirstEvents : Type 0
 FirstEvents =
-    (trace : RefT (List ℕ)) (start after : Reader) (es : List Event) (rs : List EventRead)
-    → StartsReader trace start → ReadsAll (now trace) 0 es → Calls start rs after → length rs ≤ length es
-    → FirstGiven (now trace) es rs after
+    (trace : RefT (List ℕ)) (start after : Reader) (es : List Event) (last : ℕ) (rs : List EventRead)
+    → StartsReader trace start → Passes (now trace) 0 es last → Calls start rs after → length rs ≤ length es
+    → FirstGiven (now trace) es last rs after
 
 -- ---- one form for each event (proofs/OneForm, which nothing else cites: padded numbers will remove it)
 
