@@ -26,7 +26,8 @@ const FOUND_FAULT: u64 = 2;
 
 const LINE: usize = 10;
 
-// What reading said, as the paper numbers it: the place does not move at the end and on a fault.
+// What reading said, as the paper numbers it: the place does not move at the end and on a fault, and the
+// event is then zero.
 pub struct Said {
     pub how: u64,
     pub refusal: u8,
@@ -34,38 +35,25 @@ pub struct Said {
     pub event: Event,
 }
 
-// At the end and on a fault the event is zero.
-fn no_event(how: u64, refusal: u8, place: usize) -> Said {
-    let event = Event {
-        code: 0,
-        first: 0,
-        second: 0,
-        third: 0,
-        fourth: 0,
-        fifth: 0,
-        sixth: 0,
-    };
+pub fn read_at(trace: &[u8], place: usize) -> Said {
+    let read = trace::event_at(trace, place);
+    let event = trace::event_given(read);
+    match read {
+        EventRead::Event { event: _, next } => told(FOUND_EVENT, 0, next, event),
+        EventRead::End => told(FOUND_END, 0, place, event),
+        EventRead::BadEvent(first) => told(FOUND_FAULT, table::BAD_EVENT, first, event),
+        EventRead::Cut(first) => told(FOUND_FAULT, table::CUT, first, event),
+        EventRead::Overlong(first) => told(FOUND_FAULT, table::OVERLONG, first, event),
+        EventRead::TooLarge(first) => told(FOUND_FAULT, table::TOO_LARGE, first, event),
+    }
+}
+
+fn told(how: u64, refusal: u8, place: usize, event: Event) -> Said {
     Said {
         how,
         refusal,
         place,
         event,
-    }
-}
-
-pub fn read_at(trace: &[u8], place: usize) -> Said {
-    match trace::event_at(trace, place) {
-        EventRead::Event { event, next } => Said {
-            how: FOUND_EVENT,
-            refusal: 0,
-            place: next,
-            event,
-        },
-        EventRead::End => no_event(FOUND_END, 0, place),
-        EventRead::BadEvent(first) => no_event(FOUND_FAULT, table::BAD_EVENT, first),
-        EventRead::Cut(first) => no_event(FOUND_FAULT, table::CUT, first),
-        EventRead::Overlong(first) => no_event(FOUND_FAULT, table::OVERLONG, first),
-        EventRead::TooLarge(first) => no_event(FOUND_FAULT, table::TOO_LARGE, first),
     }
 }
 
