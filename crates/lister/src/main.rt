@@ -37,7 +37,7 @@ fn list(trace: &[u8], total: usize, out: &mut [u8])
                     return;
                 }
             }
-            LineWritten::Done => {
+            LineWritten::Done { whole: _ } => {
                 io::write_all(1, &out[0..n]);
                 return;
             }

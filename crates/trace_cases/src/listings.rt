@@ -20,7 +20,7 @@ fn put_listing(trace: &[u8], total: usize, out: &mut [u8], n: usize) -> usize {
                 progress = next;
                 end = write_out(out, end + length, GATHERED);
             }
-            LineWritten::Done => return end,
+            LineWritten::Done { whole: _ } => return end,
             // Not met: what is gathered is written before it leaves no room for a line.
             LineWritten::NoRoom => return end,
         }
