@@ -21,7 +21,7 @@ fn put_listing(trace: &[u8], total: usize, out: &mut [u8], n: usize) -> usize {
                 end = write_out(out, end + length, GATHERED);
             }
             LineWritten::Done { whole: _ } => return end,
-            // Not met: what is gathered is written before it leaves no room for a line.
+            // Met only where a write failed: what is gathered is else written while a line has room.
             LineWritten::NoRoom => return end,
         }
     }
