@@ -42,12 +42,14 @@ EventDetermined = (f : List ℕ) (r q : Event) → MakesEvent f r → MakesEvent
 abbrev pub AheadKept : Type 0
 AheadKept =
     (before : List ℕ) (ahead r : Ahead) (after : List ℕ) → Slides before ahead r after
-    → take (length (slice (ahead .from) (ahead .to) before)) (slice (r .from) (r .to) after) ≡ slice (ahead .from) (ahead .to) before
+    → take (length (slice (ahead .from) (ahead .to) before)) (slice (r .from) (r .to) after)
+    ≡ slice (ahead .from) (ahead .to) before
 
 -- two results that `slide` may give where nothing is read coincide, and so do the windows that it may leave
 abbrev pub SlideDetermined : Type 0
 SlideDetermined =
-    (before : List ℕ) (ahead r q : Ahead) (after later : List ℕ) → noneAhead before ahead || enoughAhead before ahead ≡ true
+    (before : List ℕ) (ahead r q : Ahead) (after later : List ℕ)
+    → noneAhead before ahead || enoughAhead before ahead ≡ true
     → Slides before ahead r after → Slides before ahead q later → (r ≡ q) × (after ≡ later)
 
 -- ---- records (proofs/Determined)

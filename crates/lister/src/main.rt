@@ -6,8 +6,8 @@ use listing::LineWritten;
 use output::LOST;
 use output::write_out;
 
-// A program has no exit status: the outcome is told on this descriptor, to whoever opens it and says so
-// by an argument.
+// A program has no exit status: the outcome is told on this descriptor. Whoever opens it says so by an
+// argument.
 const OUTCOME: i32 = 3;
 
 // What became of the trace: listed to its end, damaged or too long, not all of it written, or not read.
@@ -74,18 +74,11 @@ fn list(trace: &[u8], total: usize, out: &mut [u8]) -> Outcome
     }
 }
 
-// The outcome as a word, to whoever asked for it.
-fn tell(outcome: Outcome) {
-    if os::arg_count() <= 1 {
-        return;
+// The outcome as a word, where an argument asks for it.
+fn tell(word: &[u8]) {
+    if os::arg_count() > 1 {
+        io::write_all(OUTCOME, word);
     }
-    match outcome {
-        Outcome::Whole => io::write_all(OUTCOME, b"whole\n"),
-        Outcome::Damaged => io::write_all(OUTCOME, b"damaged\n"),
-        Outcome::Unwritten => io::write_all(OUTCOME, b"unwritten\n"),
-        Outcome::Unread => io::write_all(OUTCOME, b"unread\n"),
-    }
-    ;
 }
 
 fn main() {
@@ -96,5 +89,10 @@ fn main() {
         Input::Length(total) => list(&trace[..kept], total, &mut out),
         Input::Unread => Outcome::Unread,
     };
-    tell(outcome);
+    match outcome {
+        Outcome::Whole => tell(b"whole\n"),
+        Outcome::Damaged => tell(b"damaged\n"),
+        Outcome::Unwritten => tell(b"unwritten\n"),
+        Outcome::Unread => tell(b"unread\n"),
+    }
 }

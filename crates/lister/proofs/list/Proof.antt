@@ -41,10 +41,13 @@ gathered c = omega (arith, room-enough _ _ _ _ _ _ (c .before .before .before .b
 
 -- what is written and not lost is no longer gathered
 written : (n r : ℕ) → n ≤ 65536 → WritesOut n 0 r → (r ≡ lost → ⊥) → r ≡ 0
-written n r h w kept = ⊎-elim (λ e. e) (λ e. absurd (kept e)) (rw (le-ltb n 0 (omega arith), ne-eqb n lost (λ e. omega arith)) at w)
+written n r h w kept =
+    ⊎-elim (λ e. e) (λ e. absurd (kept e)) (rw (le-ltb n 0 (omega arith), ne-eqb n lost (λ e. omega arith)) at w)
 
 none-gathered : (c : tie.Else1 Inv-loop μ-loop) → c .before .write-out .result ≡ 0
-none-gathered c = written _ _ (c .before .before .before .before .before .before .before .before .before .loop .inv .1) (c .before .write-out .ensures) (c .if1 .left)
+none-gathered c =
+    let loop = c .before .before .before .before .before .before .before .before .before .loop in
+    written _ _ (loop .inv .1) (c .before .write-out .ensures) (c .if1 .left)
 
 loop-less-2 : tie.Need-loop-less-2 Inv-loop μ-loop
 loop-less-2 c = omega (arith, gathered (c .before .before .before), none-gathered c)
