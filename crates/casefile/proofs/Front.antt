@@ -1,17 +1,13 @@
 -- The invariant of moving a part to the front: what is moved stands there, and what is still to be moved stands where it stood.
-use Prim.Native.Nat.{ℕ, suc, _+_, _-_, _≤_, _<_, min}
-use mathlib.Core.Bool.{Bool}
+use Prim.Native.Nat.{ℕ, suc, _+_, _-_, _≤_, _<_}
 use mathlib.Core.List.{List, [], _∷_, _++_}
 use mathlib.Core.Path.{_≡_, refl, sym, ap, _∙_}
 use native.Mathlib.Nat.{add-zero}
 use native.Mathlib.Numerals.{add-one}
 use native.Mathlib.Omega.{arith}
-use lib.ListN.{length, take, drop, getD, set, length-append, length-set, drop-of-length-le}
-use borrow.Rule.Slice.PartMut.{putMid, take-put}
-use lib.Seq.{slice, slice-empty, length-slice, take-take, take-all, take-length, length-take-le, take-suc, take-suc-set, drop-append-le, drop-drop, drop-set-lt, getD-drop}
-use Rattle.table.proofs.Laws.{by-order}
-use Rattle.casefile.specs.Contracts.{MovesToFront, Slides}
-use Rattle.casefile.specs.declared.Ahead.{Ahead}
+use lib.ListN.{length, take, drop, getD, set, length-set}
+use lib.Seq.{slice, slice-empty, length-take-le, take-suc, take-suc-set, drop-append-le, drop-drop, drop-set-lt, getD-drop}
+use Rattle.casefile.specs.Contracts.{MovesToFront}
 
 pub record Moving (before : List ℕ) (from to : ℕ) (window : List ℕ) (i : ℕ) : Type 0 where
   pub low : from ≤ i
@@ -58,38 +54,3 @@ pub moving-done : {before : List ℕ} {from to : ℕ} {window : List ℕ} {i : �
 moving-done {before} {from} {to} {window} {i} m h =
     let end : i ≡ to = omega (arith, m .high) in
     record { long = refl; front = rw end at (m .moved); same = m .long }
-
--- ---- what is ahead, before and after
-
--- nothing of a part lies behind the window
-slice-cut : (before : List ℕ) (from to : ℕ) → slice from to before ≡ slice from (min to (length before)) before
-slice-cut before from to =
-    by-order to (length before)
-    (λ h. let same : min to (length before) ≡ to = omega arith in rw same)
-    (λ h. let all : min to (length before) ≡ length before = omega arith in rw (all, take-all to before h, take-length))
-
-module _ (before : List ℕ) (ahead : Ahead) (to : ℕ) (cut : to ≡ min (ahead .to) (length before)) where
-  part : slice (ahead .from) (ahead .to) before ≡ slice (ahead .from) to before
-  part = slice-cut before (ahead .from) (ahead .to) ∙ ap (λ (t : ℕ). slice (ahead .from) t before) (sym cut)
-
-  pub none-ahead : {ended : Bool} → to < ahead .from → Slides before ahead (record { from = 0; to = 0; ended = ended }) before
-  none-ahead h =
-      let short : length (take to before) ≤ ahead .from = rw (length-take-le to before (omega arith)) (omega arith) in
-      record { ordered = omega arith; within = omega arith; kept = rw (part, drop-of-length-le (take to before) short) }
-
-  pub same-ahead : {ended : Bool} → ahead .from ≤ to → Slides before ahead (record { from = ahead .from; to = to; ended = ended }) before
-  same-ahead h = record { ordered = h; within = omega arith; kept = rw (part, take-length) }
-
-  -- what is read comes behind what was moved to the front
-  pub more-ahead :
-      {kept more : ℕ} {window : List ℕ} {ended : Bool} (new : List ℕ)
-      → ahead .from ≤ to → MovesToFront before (ahead .from) to kept window → more ≤ length new
-      → Slides before ahead (record { from = 0; to = kept + more; ended = ended }) (putMid kept (length window - kept) window new)
-  more-ahead {kept} {more} {window} new h m k =
-      let room : kept ≤ length window = omega (arith, m .long, m .same) in
-      let long : length (slice (ahead .from) to before) ≡ kept = length-slice (ahead .from) to before (omega arith) ∙ sym (m .long) in
-      record {
-        ordered = omega arith;
-        within = simp (length-append, length-take-le kept window room) (omega arith);
-        kept = rw (part, long) (take-take kept (kept + more) _ (omega arith) ∙ take-put kept (length window - kept) window new room ∙ m .front);
-      }

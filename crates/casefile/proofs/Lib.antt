@@ -1,3 +1,4 @@
 pub mod Numbers
 pub mod Front
+pub mod Sliding
 pub mod Determined

@@ -2,10 +2,13 @@
 use Prim.Native.Nat.{ℕ, _-_, _≤_}
 use mathlib.Core.List.{List}
 use mathlib.Core.Path.{_≡_}
+use lib.Dec.{eqb}
 use lib.ListN.{length, take}
 use lib.Seq.{slice}
+use Rattle.table.specs.Choice.{pick}
 use Rattle.casefile.specs.Reading.{taken, partAt, numbersAt, placeAfter}
 use Rattle.casefile.specs.Records.{phyNumbers, phyOf, eventOf}
+use Rattle.casefile.specs.Window.{endAhead, countAhead, noneAhead, enoughAhead}
 use Rattle.casefile.specs.declared.Taken.{Taken}
 use Rattle.casefile.specs.declared.Part.{Part}
 use Rattle.casefile.specs.declared.Ahead.{Ahead}
@@ -44,8 +47,29 @@ pub record MovesToFront (before : List ℕ) (from to r : ℕ) (after : List ℕ)
   pub front : take r after ≡ slice from to before
   pub same : length after ≡ length before
 
--- `slide` of the window `before`, which leaves it as `after`: what was ahead in the window is ahead still, before what was read
+-- nothing is read: what is then ahead, and the window as it was
+pub record Stays (before : List ℕ) (answer r : Ahead) (after : List ℕ) : Type 0 where
+  pub says : r ≡ answer
+  pub same : after ≡ before
+
+-- more is read: what was ahead stands at the front, and the file has ended where nothing came behind it
+pub record ReadsOn (before : List ℕ) (ahead r : Ahead) (after : List ℕ) : Type 0 where
+  pub front : take (countAhead before ahead) after ≡ slice (ahead .from) (endAhead before ahead) before
+  pub same : length after ≡ length before
+  pub start : r .from ≡ 0
+  pub more : countAhead before ahead ≤ r .to
+  pub ended : r .ended ≡ eqb (r .to) (countAhead before ahead)
+
+-- what `slide` does, in the order of its tests; open is only which bytes are read and how many: no contract can say
+abbrev pub SlidesBy : (before : List ℕ) (ahead r : Ahead) (after : List ℕ) → Type 0
+SlidesBy before ahead r after =
+    pick (noneAhead before ahead) (Stays before (record { from = 0; to = 0; ended = ahead .ended }) r after)
+    (pick (enoughAhead before ahead)
+    (Stays before (record { from = ahead .from; to = endAhead before ahead; ended = ahead .ended }) r after)
+    (ReadsOn before ahead r after))
+
+-- `slide` of the window `before`, which leaves it as `after`; callers need that what is ahead is a part of it
 pub record Slides (before : List ℕ) (ahead r : Ahead) (after : List ℕ) : Type 0 where
   pub ordered : r .from ≤ r .to
   pub within : r .to ≤ length after
-  pub kept : take (length (slice (ahead .from) (ahead .to) before)) (slice (r .from) (r .to) after) ≡ slice (ahead .from) (ahead .to) before
+  pub does : SlidesBy before ahead r after

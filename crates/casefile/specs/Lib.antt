@@ -1,4 +1,5 @@
 pub mod Reading
 pub mod Records
+pub mod Window
 pub mod Contracts
 pub mod Laws

@@ -10,6 +10,7 @@ use casefile::Ahead;
 use casefile::Place;
 use casefile::slide;
 use casefile::take;
+use output::LOST;
 use output::write_out;
 
 // More cases than any case file has: the run ends with the file.
@@ -41,7 +42,8 @@ fn one_case(s: &[u8], out: &mut [u8], n: usize) -> Place {
     }
 }
 
-// Every case of the file; what it answers is how much output is still to be written.
+// Every case of the file, or those up to a write that failed; what it answers is how much output is
+// still to be written.
 fn all_cases(window: &mut [u8], out: &mut [u8]) -> usize {
     let first = io::read_full(0, window);
     let mut ahead = Ahead {
@@ -61,6 +63,9 @@ fn all_cases(window: &mut [u8], out: &mut [u8]) -> usize {
         }
         let at = one_case(&window[from..to], out, n);
         n = at.n;
+        if n == LOST {
+            return n;
+        }
         let taken = at.next;
         if to - from < taken {
             return n;

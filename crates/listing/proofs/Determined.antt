@@ -8,13 +8,13 @@ use Rattle.listing.specs.declared.LineWritten.the-variants.{Line, Done, 
 -- what is said tells which answer said it
 answer : ToldWritten → LineWritten
 answer (wrote next n) = Line next n
-answer finished = Done
+answer (finished whole) = Done whole
 answer (refused n) = NoRoom
 
 answers : (r : LineWritten) → answer (tellsWritten r) ≡ r
 unfolding answer
 answers (Line next n) = refl
-answers Done = refl
+answers (Done whole) = refl
 answers NoRoom = refl
 
 pub written-tells-once : WrittenTellsOnce

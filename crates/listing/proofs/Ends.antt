@@ -13,7 +13,7 @@ use Rattle.trace.specs.Laws.{MovesOn}
 use Rattle.trace.proofs.Accepted.{read-moves-on}
 use Rattle.phy.specs.declared.Phy.{Phy}
 use Rattle.listing.specs.Text.{mostLine}
-use Rattle.listing.specs.Listing.{Next, lineOf, none, afterReading, lineAt}
+use Rattle.listing.specs.Listing.{Next, lineOf, noLine, afterReading, lineAt}
 use Rattle.listing.specs.Contracts.{wrote, refused, fits, bytesOf, writeNext}
 use Rattle.listing.specs.Laws.{linesLeft, LinesFall, WrittenAdvances, RoomEnough}
 use Rattle.listing.specs.declared.Progress.{Progress}
@@ -42,7 +42,7 @@ unfolding lineAt
 lines-fall s Header bytes next e = after-line s _ e (omega arith)
 lines-fall s (Events place count p) bytes next e = fall s place count p (readEvent s place) refl e
 lines-fall s TooLong bytes next e = after-line s _ e (omega arith)
-lines-fall s Done bytes next e = clash (cc)
+lines-fall s (Done whole) bytes next e = clash (cc)
 
 -- a line that is said to be written comes next, and fits
 record Written (x : Next) (before : List ℕ) (at : ℕ) (next : Progress) (n : ℕ) : Type 0 where
@@ -59,7 +59,7 @@ written-line (lineOf bytes progress) before at next n e =
     let same : progress ≡ next = cc in
     record { bytes = bytes; comes = rw same refl; room = omega (arith, leb-true (at + length bytes) (length before) t) })
     (λ f. let w : refused noRoom ≡ wrote next n = rw f at e in clash (cc))
-written-line none before at next n e = clash (cc)
+written-line (noLine whole) before at next n e = clash (cc)
 
 pub written-advances : WrittenAdvances
 written-advances s progress before at r after next n w e =
@@ -71,7 +71,7 @@ refused-line (lineOf bytes progress) before at e short =
     by-test (fits bytes before at)
     (λ t. let w : wrote progress (length bytes) ≡ refused noRoom = rw t at e in clash (cc))
     (λ f. omega (arith, leb-false (at + length bytes) (length before) f))
-refused-line none before at e short = clash (cc)
+refused-line (noLine whole) before at e short = clash (cc)
 
 pub room-enough : RoomEnough
 room-enough s progress before at r after w e = refused-line (lineAt s progress) before at (sym (w .says) ∙ e) (w .short)

@@ -1,33 +1,31 @@
 -- A line is refused by one test, whether it fits, and where none comes nothing is.
 use Prim.Native.Nat.{ℕ, _+_}
-use mathlib.Core.List.{List}
+use mathlib.Core.Bool.{Bool}
 use mathlib.Core.Path.{_≡_, refl}
 use native.Mathlib.Omega.{arith}
 use borrow.Author.Tests.{leb-false, lt-leb}
 use lib.ListN.{length}
 use Rattle.table.proofs.Laws.{by-test}
-use Rattle.listing.specs.Listing.{lineOf, none}
+use Rattle.listing.specs.Listing.{lineOf, noLine}
 use Rattle.listing.specs.Contracts.{wrote, finished, refused, fits}
 use Rattle.listing.specs.Laws.{NoRoomExactly, NoRoomKeeps}
 use Rattle.listing.specs.declared.Progress.{Progress}
+use Rattle.listing.proofs.Whole.{no-line}
 
 -- neither a line written nor the end of a listing is a refusal
 not-wrote : {next : Progress} {n k : ℕ} → wrote next n ≡ refused k → ⊥
 not-wrote e = let z : _≡_ {A = ℕ} 0 1 = cc in omega arith
 
-not-finished : {k : ℕ} → finished ≡ refused k → ⊥
+not-finished : {whole : Bool} {k : ℕ} → finished whole ≡ refused k → ⊥
 not-finished e = let z : _≡_ {A = ℕ} 0 1 = cc in omega arith
-
-is-line : {bytes : List ℕ} {next : Progress} → lineOf bytes next ≡ none → ⊥
-is-line e = let z : _≡_ {A = ℕ} 0 1 = cc in omega arith
 
 pub no-room-exactly : NoRoomExactly
 no-room-exactly (lineOf bytes next) buffer at = (
-  λ h. (is-line, by-test (fits bytes buffer at) (λ f. absurd (not-wrote (rw f at h))) (λ f. leb-false (at + length bytes) (length buffer) f)),
+  λ h. (λ whole. no-line, by-test (fits bytes buffer at) (λ f. absurd (not-wrote (rw f at h))) (λ f. leb-false (at + length bytes) (length buffer) f)),
   λ t. rw (lt-leb (at + length bytes) (length buffer) (t .1)) refl,
 )
-no-room-exactly none buffer at = (λ h. absurd (not-finished h), λ t. absurd (t .0 refl))
+no-room-exactly (noLine whole) buffer at = (λ h. absurd (not-finished h), λ t. absurd (t .0 whole refl))
 
 pub no-room-keeps : NoRoomKeeps
 no-room-keeps (lineOf bytes next) buffer at h = by-test (fits bytes buffer at) (λ f. absurd (not-wrote (rw f at h))) (λ f. rw f refl)
-no-room-keeps none buffer at h = refl
+no-room-keeps (noLine whole) buffer at h = refl

@@ -9,7 +9,7 @@ use lib.Seq.{sets}
 use Rattle.table.specs.Choice.{pick}
 use Rattle.table.specs.Refusals.{noRoom}
 use Rattle.listing.specs.Text.{mostLine, Holds}
-use Rattle.listing.specs.Listing.{Next, lineOf, none, startOf, lineAt}
+use Rattle.listing.specs.Listing.{Next, lineOf, noLine, startOf, lineAt}
 use Rattle.listing.specs.declared.Progress.{Progress}
 use Rattle.listing.specs.declared.LineWritten.{LineWritten}
 use Rattle.listing.specs.declared.LineWritten.the-variants.{Line, Done, NoRoom}
@@ -24,16 +24,16 @@ pub record Adds (t : Text) (part : List ℕ) (r : Text) : Type 0 where
 abbrev pub StartsListing : ℕ → Progress → Type 0
 StartsListing length r = r ≡ startOf length
 
--- what writing a line says: the progress after it and how many bytes it wrote, that there is none, or the number of a refusal
+-- what writing a line says: the progress after it and how many bytes it wrote, that there is none, or a refusal's number
 pub data ToldWritten : Type 0 where
   wrote : Progress → ℕ → ToldWritten
-  finished : ToldWritten
+  finished : (whole : Bool) → ToldWritten
   refused : ℕ → ToldWritten
 
 -- the bytes of what comes next
 abbrev pub bytesOf : Next → List ℕ
 bytesOf (lineOf bytes next) = bytes
-bytesOf none = []
+bytesOf (noLine whole) = []
 
 -- whether bytes fit into a buffer from a place on
 abbrev pub fits : List ℕ → List ℕ → ℕ → Bool
@@ -42,17 +42,17 @@ fits bytes buffer at = leb (at + length bytes) (length buffer)
 -- what writing says
 abbrev pub writeNext : Next → List ℕ → ℕ → ToldWritten
 writeNext (lineOf bytes next) buffer at = pick (fits bytes buffer at) (wrote next (length bytes)) (refused noRoom)
-writeNext none buffer at = finished
+writeNext (noLine whole) buffer at = finished whole
 
 -- the buffer afterwards: the line at the place, all other bytes as before; where there is no line or no room, nothing is written
 abbrev pub bufferAfter : Next → List ℕ → ℕ → List ℕ
 bufferAfter (lineOf bytes next) buffer at = pick (fits bytes buffer at) (sets buffer at bytes) buffer
-bufferAfter none buffer at = buffer
+bufferAfter (noLine whole) buffer at = buffer
 
 -- what each answer says, as the paper numbers it
 abbrev pub tellsWritten : LineWritten → ToldWritten
 tellsWritten (Line next n) = wrote next n
-tellsWritten Done = finished
+tellsWritten (Done whole) = finished whole
 tellsWritten NoRoom = refused noRoom
 
 -- writing what comes next into the buffer `before` at a place, which leaves it as `after`

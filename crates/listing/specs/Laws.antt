@@ -1,5 +1,6 @@
 -- What is promised of a listing beyond the contracts. Each statement is proved under its own name, in the file of proofs/ that stands beside its heading.
 use Prim.Native.Nat.{ℕ, suc, _+_, _-_, _≤_, _<_}
+use mathlib.Core.Bool.{Bool, true}
 use mathlib.Core.List.{List, [], _++_}
 use mathlib.Core.Logic.{_↔_}
 use mathlib.Core.Path.{_≡_}
@@ -9,7 +10,7 @@ use Rattle.event.specs.declared.Event.{Event}
 use Rattle.trace.specs.Laws.{ReadsAll}
 use Rattle.listing.specs.Text.{mostLine}
 use Rattle.listing.specs.Lines.{endLine}
-use Rattle.listing.specs.Listing.{mostTrace, Lists, Next, lineOf, none, startOf, lineAt}
+use Rattle.listing.specs.Listing.{mostTrace, Lists, Next, lineOf, noLine, startOf, lineAt}
 use Rattle.listing.specs.Contracts.{StartsListing, WritesLine, wrote, refused, bytesOf, writeNext, bufferAfter, tellsWritten}
 use Rattle.listing.specs.declared.Progress.{Progress}
 use Rattle.listing.specs.declared.Progress.the-variants.{Header, Events, TooLong, Done}
@@ -36,7 +37,9 @@ LineDetermined =
 -- 10: a line comes, and does not fit between the place and the buffer's end
 abbrev pub NoRoomExactly : Type 0
 NoRoomExactly =
-    (n : Next) (buffer : List ℕ) (at : ℕ) → writeNext n buffer at ≡ refused noRoom ↔ ((n ≡ none → ⊥) × (length buffer < at + length (bytesOf n)))
+    (n : Next) (buffer : List ℕ) (at : ℕ)
+    → writeNext n buffer at ≡ refused noRoom
+    ↔ (((whole : Bool) → n ≡ noLine whole → ⊥) × (length buffer < at + length (bytesOf n)))
 
 -- and then the buffer is as it was
 abbrev pub NoRoomKeeps : Type 0
@@ -49,7 +52,7 @@ abbrev pub linesLeft : List ℕ → Progress → ℕ
 linesLeft s Header = suc (suc (length s))
 linesLeft s (Events place count p) = suc (length s - place)
 linesLeft s TooLong = 1
-linesLeft s Done = 0
+linesLeft s (Done whole) = 0
 
 -- each line leaves fewer
 abbrev pub LinesFall : Type 0
@@ -73,12 +76,17 @@ RoomEnough =
 
 -- ---- the whole listing (proofs/Whole)
 
--- the lines from a progress on, end to end
-pub data Lines (s : List ℕ) : Progress → List ℕ → Type 0 where
-  over : {progress : Progress} → lineAt s progress ≡ none → Lines s progress []
+-- the lines from a progress on, end to end, and the outcome after the last: whether the trace was listed to its end
+pub data Lines (s : List ℕ) : Progress → (whole : Bool) → List ℕ → Type 0 where
+  over : {progress : Progress} {whole : Bool} → lineAt s progress ≡ noLine whole → Lines s progress whole []
   more :
-      {progress next : Progress} {bytes others : List ℕ}
-      → lineAt s progress ≡ lineOf bytes next → Lines s next others → Lines s progress (bytes ++ others)
+      {progress next : Progress} {whole : Bool} {bytes others : List ℕ}
+      → lineAt s progress ≡ lineOf bytes next → Lines s next whole others → Lines s progress whole (bytes ++ others)
+
+-- these bytes are the lines from a progress on, with some outcome
+pub record LinesFrom (s : List ℕ) (progress : Progress) (bytes : List ℕ) : Type 0 where
+  pub whole : Bool
+  pub lines : Lines s progress whole bytes
 
 -- every trace has a listing
 pub record Listed (s : List ℕ) : Type 0 where
@@ -94,7 +102,19 @@ ListingOnce = (s bytes others : List ℕ) → Lists s bytes → Lists s others �
 
 -- the lines from the start on are the listing, and nothing else is
 abbrev pub LinesAreListing : Type 0
-LinesAreListing = (s bytes : List ℕ) → Lines s (startOf (length s)) bytes ↔ Lists s bytes
+LinesAreListing = (s bytes : List ℕ) → LinesFrom s (startOf (length s)) bytes ↔ Lists s bytes
+
+-- ---- the outcome (proofs/Outcome)
+
+-- a trace that is not too long and is read to its end without a fault
+pub record Whole (s : List ℕ) : Type 0 where
+  pub short : length s ≤ mostTrace
+  pub events : List Event
+  pub read : ReadsAll s 0 events
+
+-- the outcome after the lines from the start on tells whether the trace is whole
+abbrev pub WholeExactly : Type 0
+WholeExactly = (s bytes : List ℕ) (whole : Bool) → Lines s (startOf (length s)) whole bytes → whole ≡ true ↔ Whole s
 
 -- ---- the last line (proofs/LastLine)
 

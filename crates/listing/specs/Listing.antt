@@ -1,5 +1,6 @@
 -- The listing of a trace: the whole of it, and the same line by line.
 use Prim.Native.Nat.{ℕ, suc, _+_, _%_, _^_, _≤_, _<_}
+use mathlib.Core.Bool.{Bool, true, false}
 use mathlib.Core.List.{List, _++_}
 use mathlib.Core.Path.{_≡_}
 use lib.Dec.{leb}
@@ -36,10 +37,10 @@ pub data Lists (s : List ℕ) : List ℕ → Type 0 where
 
 -- ---- line by line
 
--- what comes next: the bytes of a line and the progress after it, or nothing
+-- what comes next: the bytes of a line and the progress after it, or no line more, the trace listed to its end or not
 pub data Next : Type 0 where
   lineOf : List ℕ → Progress → Next
-  none : Next
+  noLine : (whole : Bool) → Next
 
 -- before the first line of a trace of a length
 abbrev pub startOf : (length : ℕ) → Progress
@@ -52,12 +53,12 @@ oneMore count = (count + 1) % 2 ^ 64
 -- the line of what stands at a place
 abbrev pub afterReading : (place count : ℕ) → Phy → Told → Next
 afterReading place count p (event e next) = lineOf (eventLine place e (stepOf p e)) (Events next (oneMore count) (stepOf p e .next))
-afterReading place count p end = lineOf (endLine place count) Done
-afterReading place count p (refused n at) = lineOf (stopLine at n) Done
+afterReading place count p end = lineOf (endLine place count) (Done true)
+afterReading place count p (refused n at) = lineOf (stopLine at n) (Done false)
 
 -- the next line at any progress
 unfoldable pub lineAt : List ℕ → Progress → Next
 lineAt s Header = lineOf headerLine (Events 0 0 freshPhy)
 lineAt s (Events place count p) = afterReading place count p (readEvent s place)
-lineAt s TooLong = lineOf tooLongLine Done
-lineAt s Done = none
+lineAt s TooLong = lineOf tooLongLine (Done false)
+lineAt s (Done whole) = noLine whole

@@ -3,6 +3,7 @@
 mod lines;
 mod text;
 
+ghost use mathlib.Core.Bool.{false};
 ghost use mathlib.Core.List.{List};
 ghost use Prim.Native.Nat.{ℕ, _≤_};
 ghost use Rattle.listing.specs.Text.{Holds, mostLine};
@@ -19,18 +20,18 @@ use trace::EventRead;
 pub const MOST_TRACE: usize = 65536;
 
 // What the next line is of: the header, what stands at a place of the trace, a trace that is too long,
-// or nothing more.
+// or nothing more, the trace having been listed to its end or not.
 pub enum Progress {
     Header,
     Events { place: usize, count: u64, phy: Phy },
     TooLong,
-    Done,
+    Done { whole: bool },
 }
 
 // What writing a line did: the progress after it and how many bytes it wrote, or why it wrote none.
 pub enum LineWritten {
     Line { next: Progress, length: usize },
-    Done,
+    Done { whole: bool },
     NoRoom,
 }
 
@@ -64,9 +65,10 @@ fn put_line(text: Text, next: Progress, out: &mut [u8], at: usize) -> LineWritte
 
 // The line of a fault, after which nothing comes.
 fn put_stop(place: usize, refusal: u8, out: &mut [u8], at: usize) -> LineWritten
-    ensures { λ r. ⌜ PutsLine (lineOf (stopLine place refusal) Progress·Done) (now (out .entry)) at r (now (out .exit)) ⌝ }
+    ensures { λ r. ⌜ PutsLine (lineOf (stopLine place refusal) (Progress·Done false)) (now (out .entry)) at r (now (out .exit)) ⌝ }
 {
-    put_line(lines::stop_line(place, refusal), Progress::Done, out, at)
+    let stopped = Progress::Done { whole: false };
+    put_line(lines::stop_line(place, refusal), stopped, out, at)
 }
 
 // The line of what stands at a place: an event, the trace's end or a fault.
@@ -91,7 +93,10 @@ fn next_event(
             };
             put_line(lines::event_line(place, event, stepped), progress, out, at)
         }
-        EventRead::End => put_line(lines::end_line(place, count), Progress::Done, out, at),
+        EventRead::End => {
+            let ended = Progress::Done { whole: true };
+            put_line(lines::end_line(place, count), ended, out, at)
+        }
         EventRead::BadEvent(first) => put_stop(first, table::BAD_EVENT, out, at),
         EventRead::Cut(first) => put_stop(first, table::CUT, out, at),
         EventRead::Overlong(first) => put_stop(first, table::OVERLONG, out, at),
@@ -113,7 +118,10 @@ pub fn next_line(trace: &[u8], progress: Progress, out: &mut [u8], at: usize) ->
             put_line(lines::header_line(), first, out, at)
         }
         Progress::Events { place, count, phy } => next_event(trace, place, count, phy, out, at),
-        Progress::TooLong => put_line(lines::too_long_line(), Progress::Done, out, at),
-        Progress::Done => LineWritten::Done,
+        Progress::TooLong => {
+            let unlisted = Progress::Done { whole: false };
+            put_line(lines::too_long_line(), unlisted, out, at)
+        }
+        Progress::Done { whole } => LineWritten::Done { whole },
     }
 }

@@ -1,15 +1,16 @@
 -- Writing one thing after another is writing both: a store past the end changes nothing, so what has no room is left out either way.
 use Prim.Native.Nat.{ℕ, suc, _+_, _≤_, _<_}
 use mathlib.Core.List.{List, [], _∷_, _++_}
-use mathlib.Core.Path.{_≡_, refl, sym, ap, ap₂, _∙_}
+use mathlib.Core.Path.{_≡_, refl, sym, ap, ap₂, subst, _∙_}
 use native.Mathlib.Numerals.{add-one}
 use native.Mathlib.Omega.{arith}
 use lib.ListN.{length, drop, getD, length-append, drop-of-length-le}
 use lib.Seq.{sets, set-out, length-sets, drop-cons}
 use Rattle.table.proofs.Laws.{by-order}
 use Rattle.table.proofs.Stores.{sets-on}
-use Rattle.output.specs.Writing.{further, more, reached, gathered, stillGathered}
-use Rattle.output.specs.Contracts.{Puts, PutsAll, PutsLine}
+use Rattle.output.specs.Writing.{further, more, reached, gathered, lost}
+use Rattle.output.specs.Contracts.{Puts, PutsAll, WritesOut, PutsLine}
+use Rattle.output.specs.Laws.{PutsStayLost, LinesStayLost}
 
 sets-out : (buffer xs : List ℕ) (at : ℕ) → length buffer ≤ at → sets buffer at xs ≡ buffer
 sets-out buffer [] at h = refl
@@ -40,9 +41,9 @@ puts-long {bytes} {before} {n = n} p = ap length (p .stored) ∙ length-sets bef
 
 -- the end of a line
 pub puts-line : {xs ys before out after : List ℕ} {n m r : ℕ} → Puts xs before n m out → PutsLine ys out m r after → PutsLine (xs ++ ys) before n r after
-puts-line {xs} {ys} {before} {out} {after} {n} {m} p q =
+puts-line {xs} {ys} {before} {out} {after} {n} {m} {r} p q =
     let both : Puts (xs ++ ys) before n (reached (length out) m (length ys)) after = puts-then p (record { there = refl; stored = q .stored }) in
-    record { there = q .there ∙ ap (stillGathered gathered) (both .there); stored = both .stored }
+    record { there = subst (λ (k : ℕ). WritesOut k gathered r) (both .there) (q .there); stored = both .stored }
 
 -- ---- the invariant of a loop that writes: what is left, written from here, makes the whole
 
@@ -85,3 +86,13 @@ more-done numbers i p h = putting-done p (ap more (drop-of-length-le numbers h))
 -- whoever starts in the buffer ends in it
 pub puts-within : {bytes before after : List ℕ} {n r : ℕ} → Puts bytes before n r after → PutsAll bytes before n r after
 puts-within p = record { puts = p; within = λ h. omega (arith, p .there, puts-long p) }
+
+-- ---- where a write failed nothing has room
+
+pub puts-stay-lost : PutsStayLost
+puts-stay-lost bytes before r after h p = (omega (arith, p .there), p .stored ∙ sets-out before bytes lost h)
+
+pub lines-stay-lost : LinesStayLost
+lines-stay-lost bytes before r after h p =
+    let there : reached (length before) lost (length bytes) ≡ lost = omega arith in
+    (rw there at (p .there), p .stored ∙ sets-out before bytes lost h)

@@ -1,10 +1,12 @@
 -- What each function promises, cited by its `ensures` and, of the public ones, by the theorem that two results it allows coincide.
 use Prim.Native.Nat.{ℕ, _≤_}
 use mathlib.Core.List.{List, [], _∷_}
+use mathlib.Core.Logic.{_⊎_}
 use mathlib.Core.Path.{_≡_}
 use lib.ListN.{length}
 use lib.Seq.{sets}
-use Rattle.output.specs.Writing.{newline, more, numbersText, line, reached, gathered, stillGathered}
+use Rattle.table.specs.Choice.{pick}
+use Rattle.output.specs.Writing.{newline, more, numbersText, line, reached, gathered, lost, staysGathered}
 
 -- writing bytes at n into the buffer `before`, which leaves it as `after`: a byte that has no room changes nothing
 pub record Puts (bytes before : List ℕ) (n r : ℕ) (after : List ℕ) : Type 0 where
@@ -24,13 +26,13 @@ PutsMore numbers before n r after = Puts (more numbers) before n r after
 abbrev pub PutsNumbers : (first : ℕ) (others before : List ℕ) (n r : ℕ) (after : List ℕ) → Type 0
 PutsNumbers first others before n r after = Puts (numbersText first others) before n r after
 
--- `write_out` of n bytes
+-- `write_out` of n bytes: what does not stay gathered is written, and no contract can say whether that fails
 abbrev pub WritesOut : (n least r : ℕ) → Type 0
-WritesOut n least r = r ≡ stillGathered least n
+WritesOut n least r = pick (staysGathered n least) (r ≡ n) ((r ≡ 0) ⊎ (r ≡ lost))
 
 -- bytes that end a line: what is gathered is written once there is enough of it
 pub record PutsLine (bytes before : List ℕ) (n r : ℕ) (after : List ℕ) : Type 0 where
-  pub there : r ≡ stillGathered gathered (reached (length before) n (length bytes))
+  pub there : WritesOut (reached (length before) n (length bytes)) gathered r
   pub stored : after ≡ sets before n bytes
 
 -- `end_line`

@@ -1,8 +1,8 @@
 -- Lines of text: a number, each further number after a blank, and a newline; and how far writing comes in a buffer.
 use Prim.Native.Nat.{ℕ, _+_, _-_, min}
+use mathlib.Core.Bool.{Bool, _||_}
 use mathlib.Core.List.{List, [], _∷_, _++_}
-use lib.Dec.{ltb}
-use Rattle.table.specs.Choice.{pick}
+use lib.Dec.{ltb, eqb}
 use Rattle.output.specs.Decimal.{decimal}
 
 -- ---- text
@@ -42,6 +42,10 @@ reached room n count = n + min count (room - n)
 abbrev pub gathered : ℕ
 gathered = 32768
 
--- how much of n bytes is still gathered, where `least` or more are written
-abbrev pub stillGathered : (least n : ℕ) → ℕ
-stillGathered least n = pick (ltb n least) n 0
+-- the place after a write that failed, which no buffer has
+abbrev pub lost : ℕ
+lost = 18446744073709551615
+
+-- whether n bytes stay gathered: they are fewer than `least`, or a write failed before
+abbrev pub staysGathered : (n least : ℕ) → Bool
+staysGathered n least = ltb n least || eqb n lost

@@ -1,12 +1,19 @@
 // Lines of text, gathered in a buffer: decimal numbers, one blank between two. Each function writes at
 // n and answers where the next one writes; what has no room is left out.
+ghost use Prim.Native.Nat.{min};
 ghost use mathlib.Core.List.{[], _∷_};
+ghost use mathlib.Core.Path.{_≡_};
+ghost use lib.ListN.{length};
+ghost use Rattle.table.specs.Choice.{pick};
 ghost use Rattle.output.specs.Decimal.{decimal};
-ghost use Rattle.output.specs.Writing.{further};
+ghost use Rattle.output.specs.Writing.{further, lost};
 ghost use Rattle.output.specs.Contracts.{Puts, PutsAll, PutsMore, PutsNumbers, WritesOut, EndsLine, PutsNumbersLine};
 
 // The output is written once this much is gathered, so that a line always has room.
 pub const GATHERED: usize = 32768;
+
+// The place after a write that failed. No buffer has it, so nothing that comes later has room.
+pub const LOST: usize = 18446744073709551615;
 
 fn put(out: &mut [u8], n: usize, b: u8) -> usize
     ensures { λ r. ⌜ Puts (b ∷ []) (now (out .entry)) n r (now (out .exit)) ⌝ }
@@ -82,17 +89,38 @@ pub fn put_numbers(out: &mut [u8], n: usize, first: u64, others: &[u64]) -> usiz
     put_more(out, end, others)
 }
 
-// What is gathered goes out once it is `least` or more; the answer is how much is gathered then.
+// How much of n bytes the buffer holds.
+fn held(out: &[u8], n: usize) -> usize
+    ensures { λ r. ⌜ r ≡ min n (length (now (out .entry))) ⌝ }
+{
+    let room = out.len();
+    if n < room { n } else { room }
+}
+
+// The place after a write. A program has no exit status, so what is lost is told on standard error;
+// whoever closed a pipe needs no telling.
+fn after_write(whole: bool) -> usize
+    ensures { λ r. ⌜ r ≡ pick whole 0 lost ⌝ }
+{
+    if whole {
+        return 0;
+    }
+    if os::errno() != libc::EPIPE {
+        os::fail(b"not all was written to standard output");
+    }
+    LOST
+}
+
+// What is gathered goes out once it is `least` or more; the answer is how much is gathered then, or
+// that it was lost. No contract can say what a call writes, so no branch passes the write by.
 pub fn write_out(out: &[u8], n: usize, least: usize) -> usize
     ensures { λ r. ⌜ WritesOut n least r ⌝ }
 {
-    if n < least {
+    if (n < least) | (n == LOST) {
         return n;
     }
-    if n <= out.len() {
-        io::write_all(1, &out[0..n]);
-    }
-    0
+    let count = held(out, n);
+    after_write(io::write_all(libc::STDOUT_FILENO, &out[..count]))
 }
 
 // The end of a line, after which a full buffer is written.

@@ -20,8 +20,8 @@ fn put_listing(trace: &[u8], total: usize, out: &mut [u8], n: usize) -> usize {
                 progress = next;
                 end = write_out(out, end + length, GATHERED);
             }
-            LineWritten::Done => return end,
-            // Not met: what is gathered is written before it leaves no room for a line.
+            LineWritten::Done { whole: _ } => return end,
+            // Met only where a write failed: what is gathered is else written while a line has room.
             LineWritten::NoRoom => return end,
         }
     }

@@ -1,9 +1,13 @@
 -- `lister::list` is safe and ends: each line leaves fewer to come, and a buffer that has no room for one holds something, which is written.
-use Prim.Native.Nat.{_+_, _*_, _≤_, _<_}
+use Prim.Native.Nat.{ℕ, _+_, _*_, _≤_, _<_}
+use mathlib.Core.Logic.{⊎-elim}
 use mathlib.Core.Path.{_≡_, ap}
 use native.Mathlib.Omega.{arith}
 use borrow.Author.Needs.{needs}
+use borrow.Author.Tests.{le-ltb, ne-eqb}
 use lib.ListN.{length}
+use Rattle.output.specs.Writing.{lost}
+use Rattle.output.specs.Contracts.{WritesOut}
 use Rattle.listing.specs.Laws.{linesLeft, Advances}
 use Rattle.listing.specs.Contracts.{tellsWritten}
 use Rattle.listing.proofs.Ends.{written-advances, room-enough}
@@ -35,8 +39,21 @@ loop-again c = (search needs, omega (arith, advances c .within))
 gathered : (c : tie.After-enum-told Inv-loop μ-loop) → 0 < c .before .before .before .before .before .before .loop .n
 gathered c = omega (arith, room-enough _ _ _ _ _ _ (c .before .before .before .before .next-line .ensures) (ap tellsWritten (c .enum-told .given .1)))
 
+-- what is written and not lost is no longer gathered
+written : (n r : ℕ) → n ≤ 65536 → WritesOut n 0 r → (r ≡ lost → ⊥) → r ≡ 0
+written n r h w kept =
+    ⊎-elim (λ e. e) (λ e. absurd (kept e)) (rw (le-ltb n 0 (omega arith), ne-eqb n lost (λ e. omega arith)) at w)
+
+none-gathered : (c : tie.Else1 Inv-loop μ-loop) → c .before .write-out .result ≡ 0
+none-gathered c =
+    let loop = c .before .before .before .before .before .before .before .before .before .loop in
+    written _ _ (loop .inv .1) (c .before .write-out .ensures) (c .if1 .left)
+
 loop-less-2 : tie.Need-loop-less-2 Inv-loop μ-loop
-loop-less-2 c = omega (arith, gathered (c .before .before .before .before))
+loop-less-2 c = omega (arith, gathered (c .before .before .before), none-gathered c)
+
+loop-again-2 : tie.Need-loop-again-2 Inv-loop μ-loop
+loop-again-2 c = (search needs, omega (arith, none-gathered c))
 
 pub list-spec : {M : Type 1} → statement M
 list-spec =
@@ -52,18 +69,13 @@ list-spec =
     loop-less
     loop-again
     (λ c. search needs)
+    (λ _ _. tt)
     (λ c. search needs)
     (λ c. search needs)
+    loop-less-2
+    loop-again-2
     (λ c. search needs)
     (λ _ _. tt)
-    loop-less-2
-    (λ c. search needs)
-    (λ c. search needs)
-    (λ c. search needs)
-    (λ c. search needs)
-    (λ c. search needs)
-    (λ c. search needs)
-    (λ c. search needs)
     (λ _ _. tt)
     (λ c. search needs)
     (λ c. search needs))

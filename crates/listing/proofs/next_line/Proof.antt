@@ -20,7 +20,7 @@ returns-3 c = rw (c .before .before .before .before .before .enum-told2 .given .
 
 returns-4 : tie.Need-returns-4
 unfolding lineAt
-returns-4 c = rw (c .enum-told3 .given .1) (record { says = refl; bytes = refl; short = omega arith })
+returns-4 c = rw (c .before .progress2 .given .1) (record { says = refl; bytes = refl; short = omega arith })
 
 pub next-line-spec : {M : Type 1} → statement M
 next-line-spec =
