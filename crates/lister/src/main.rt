@@ -2,6 +2,7 @@
 // in crate `listing`; here they are gathered and written out.
 ghost use mathlib.Core.Path.{_≡_};
 ghost use lib.ListN.{length};
+ghost use Rattle.lister.specs.Says.{endingOf, ListsTo};
 use listing::LineWritten;
 use output::LOST;
 use output::write_out;
@@ -40,7 +41,9 @@ fn total(kept: usize) -> Input {
 }
 
 // The outcome after the last line, where n tells whether all was written.
-fn ending(whole: bool, n: usize) -> Outcome {
+fn ending(whole: bool, n: usize) -> Outcome
+    ensures { λ r. ⌜ r ≡ endingOf whole n ⌝ }
+{
     if n == LOST {
         return Outcome::Unwritten;
     }
@@ -54,6 +57,7 @@ fn ending(whole: bool, n: usize) -> Outcome {
 // `out`, which is written when it has no room for the next one. Where a write fails the listing stops.
 fn list(trace: &[u8], total: usize, out: &mut [u8]) -> Outcome
     requires { ⌜ 65536 ≡ length (now out) ⌝ }
+    ensures { λ r. ⌜ ListsTo (now (trace .entry)) total r ⌝ }
 {
     let mut progress = listing::start(total);
     let mut n = 0;

@@ -1,7 +1,8 @@
 -- A listing ends: an event read moves the place on within the trace, and every other line is the last.
 use Prim.Native.Nat.{ℕ, suc, _+_, _-_, _≤_, _<_}
+use mathlib.Core.Bool.{Bool}
 use mathlib.Core.List.{List}
-use mathlib.Core.Path.{_≡_, refl, sym, subst, _∙_}
+use mathlib.Core.Path.{_≡_, refl, sym, ap, subst, _∙_}
 use native.Mathlib.Omega.{arith}
 use borrow.Author.Tests.{leb-true, leb-false}
 use lib.ListN.{length}
@@ -14,8 +15,8 @@ use Rattle.trace.proofs.Accepted.{read-moves-on}
 use Rattle.phy.specs.declared.Phy.{Phy}
 use Rattle.listing.specs.Text.{mostLine}
 use Rattle.listing.specs.Listing.{Next, lineOf, noLine, afterReading, lineAt}
-use Rattle.listing.specs.Contracts.{wrote, refused, fits, bytesOf, writeNext}
-use Rattle.listing.specs.Laws.{linesLeft, LinesFall, WrittenAdvances, RoomEnough}
+use Rattle.listing.specs.Contracts.{wrote, finished, refused, fits, bytesOf, writeNext}
+use Rattle.listing.specs.Laws.{linesLeft, LinesFall, WrittenAdvances, FinishedComes, RoomEnough}
 use Rattle.listing.specs.declared.Progress.{Progress}
 use Rattle.listing.specs.declared.Progress.the-variants.{Header, Events, TooLong, Done}
 
@@ -64,7 +65,17 @@ written-line (noLine whole) before at next n e = clash (cc)
 pub written-advances : WrittenAdvances
 written-advances s progress before at r after next n w e =
     let l : Written (lineAt s progress) before at next n = written-line (lineAt s progress) before at next n (sym (w .says) ∙ e) in
-    record { fewer = lines-fall s progress (l .bytes) next (l .comes); within = l .room }
+    record { bytes = l .bytes; comes = l .comes; fewer = lines-fall s progress (l .bytes) next (l .comes); within = l .room }
+
+finished-line : (x : Next) (before : List ℕ) (at : ℕ) (whole : Bool) → writeNext x before at ≡ finished whole → x ≡ noLine whole
+finished-line (lineOf bytes progress) before at whole e =
+    by-test (fits bytes before at)
+    (λ t. let w : wrote progress (length bytes) ≡ finished whole = rw t at e in clash (cc))
+    (λ f. let w : refused noRoom ≡ finished whole = rw f at e in clash (cc))
+finished-line (noLine told) before at whole e = let same : told ≡ whole = cc in ap noLine same
+
+pub finished-comes : FinishedComes
+finished-comes s progress before at r after whole w e = finished-line (lineAt s progress) before at whole (sym (w .says) ∙ e)
 
 refused-line : (x : Next) (before : List ℕ) (at : ℕ) → writeNext x before at ≡ refused noRoom → length (bytesOf x) ≤ mostLine → length before < at + mostLine
 refused-line (lineOf bytes progress) before at e short =

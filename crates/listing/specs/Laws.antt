@@ -11,7 +11,7 @@ use Rattle.trace.specs.Laws.{ReadsAll}
 use Rattle.listing.specs.Text.{mostLine}
 use Rattle.listing.specs.Lines.{endLine}
 use Rattle.listing.specs.Listing.{mostTrace, Lists, Next, lineOf, noLine, startOf, lineAt}
-use Rattle.listing.specs.Contracts.{StartsListing, WritesLine, wrote, refused, bytesOf, writeNext, bufferAfter, tellsWritten}
+use Rattle.listing.specs.Contracts.{StartsListing, WritesLine, wrote, finished, refused, bytesOf, writeNext, bufferAfter, tellsWritten}
 use Rattle.listing.specs.declared.Progress.{Progress}
 use Rattle.listing.specs.declared.Progress.the-variants.{Header, Events, TooLong, Done}
 use Rattle.listing.specs.declared.LineWritten.{LineWritten}
@@ -58,8 +58,10 @@ linesLeft s (Done whole) = 0
 abbrev pub LinesFall : Type 0
 LinesFall = (s : List ℕ) (progress : Progress) (bytes : List ℕ) (next : Progress) → lineAt s progress ≡ lineOf bytes next → linesLeft s next < linesLeft s progress
 
--- a line written leaves fewer, and lies within the buffer
+-- a line written is the one that comes next, leaves fewer, and lies within the buffer
 pub record Advances (s : List ℕ) (progress next : Progress) (before : List ℕ) (at n : ℕ) : Type 0 where
+  pub bytes : List ℕ
+  pub comes : lineAt s progress ≡ lineOf bytes next
   pub fewer : linesLeft s next < linesLeft s progress
   pub within : at + n ≤ length before
 
@@ -67,6 +69,12 @@ abbrev pub WrittenAdvances : Type 0
 WrittenAdvances =
     (s : List ℕ) (progress : Progress) (before : List ℕ) (at : ℕ) (r : LineWritten) (after : List ℕ) (next : Progress) (n : ℕ)
     → WritesLine s progress before at r after → tellsWritten r ≡ wrote next n → Advances s progress next before at n
+
+-- nothing more is written where no line comes, and the outcome is that of the progress
+abbrev pub FinishedComes : Type 0
+FinishedComes =
+    (s : List ℕ) (progress : Progress) (before : List ℕ) (at : ℕ) (r : LineWritten) (after : List ℕ) (whole : Bool)
+    → WritesLine s progress before at r after → tellsWritten r ≡ finished whole → lineAt s progress ≡ noLine whole
 
 -- a buffer with room for the longest line does not refuse one
 abbrev pub RoomEnough : Type 0

@@ -1,4 +1,4 @@
--- `lister::list` is safe and ends: each line leaves fewer to come, and a buffer that has no room for one holds something, which is written.
+-- `lister::list` ends as the lines from the start do: each line leads on to the next and leaves fewer to come, and a buffer that has no room for one holds something, which is written.
 use Prim.Native.Nat.{ℕ, _+_, _*_, _≤_, _<_}
 use mathlib.Core.Logic.{⊎-elim}
 use mathlib.Core.Path.{_≡_, ap}
@@ -10,12 +10,13 @@ use Rattle.output.specs.Writing.{lost}
 use Rattle.output.specs.Contracts.{WritesOut}
 use Rattle.listing.specs.Laws.{linesLeft, Advances}
 use Rattle.listing.specs.Contracts.{tellsWritten}
-use Rattle.listing.proofs.Ends.{written-advances, room-enough}
+use Rattle.listing.proofs.Ends.{written-advances, finished-comes, room-enough}
+use Rattle.lister.proofs.Leads.{Leads, leads-start, leads-on, leads-over}
 use Rattle.lister.proofs.list.Statement.{statement}
 use Rattle.lister.proofs.list.Tie as tie
 
 abbrev Inv-loop : tie.InvT-loop
-Inv-loop trace total out₀ progress₀ n₀ out progress n = (length out ≡ 65536) × (n ≤ 65536)
+Inv-loop trace total out₀ progress₀ n₀ out progress n = (length out ≡ 65536) × (n ≤ 65536) × Leads trace total progress
 
 abbrev μ-loop : tie.MeasureT-loop
 μ-loop trace total out₀ progress₀ n₀ out progress n = linesLeft trace progress * 65537 + n
@@ -33,7 +34,7 @@ loop-less : tie.Need-loop-less Inv-loop μ-loop
 loop-less c = omega (arith, advances c .fewer, advances c .within)
 
 loop-again : tie.Need-loop-again Inv-loop μ-loop
-loop-again c = (search needs, omega (arith, advances c .within))
+loop-again c = (search needs, omega (arith, advances c .within), leads-on (c .before .before .before .before .before .before .before .loop .inv .2) (advances c))
 
 -- without room something is gathered
 gathered : (c : tie.After-enum-told Inv-loop μ-loop) → 0 < c .before .before .before .before .before .before .loop .n
@@ -53,7 +54,17 @@ loop-less-2 : tie.Need-loop-less-2 Inv-loop μ-loop
 loop-less-2 c = omega (arith, gathered (c .before .before .before), none-gathered c)
 
 loop-again-2 : tie.Need-loop-again-2 Inv-loop μ-loop
-loop-again-2 c = (search needs, omega (arith, none-gathered c))
+loop-again-2 c = (search needs, omega (arith, none-gathered c), c .before .before .before .before .before .before .before .before .before .loop .inv .2)
+
+loop-holds : tie.Need-loop-holds Inv-loop μ-loop
+loop-holds c = (search needs, search needs, leads-start (c .start .ensures))
+
+returns-2 : tie.Need-returns-2 Inv-loop μ-loop
+returns-2 c =
+    let told = c .before .before .before .before in
+    let line = told .before .before .before .before in
+    rw (c .ending .ensures)
+    (leads-over (line .before .before .loop .inv .2) (c .before .write-out2 .result) (finished-comes _ _ _ _ _ _ _ (line .next-line .ensures) (ap tellsWritten (told .whole .given .1))))
 
 pub list-spec : {M : Type 1} → statement M
 list-spec =
@@ -62,7 +73,7 @@ list-spec =
     Inv-loop
     μ-loop
     (λ _ _. tt)
-    (λ c. search needs)
+    loop-holds
     (λ _ _. tt)
     (λ c. search needs)
     add-n
@@ -78,4 +89,4 @@ list-spec =
     (λ _ _. tt)
     (λ _ _. tt)
     (λ c. search needs)
-    (λ c. search needs))
+    returns-2)

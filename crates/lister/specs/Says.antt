@@ -1,0 +1,28 @@
+-- What the lister's outcome says of the trace that it listed.
+use Prim.Native.Nat.{ℕ}
+use mathlib.Core.Bool.{Bool, true, false}
+use mathlib.Core.List.{List}
+use lib.Dec.{eqb}
+use Rattle.table.specs.Choice.{pick}
+use Rattle.output.specs.Writing.{lost}
+use Rattle.listing.specs.Listing.{startOf}
+use Rattle.listing.specs.Laws.{Lines}
+use Rattle.listing.specs.declared.Progress.{Progress}
+use Rattle.lister.specs.declared.Outcome.{Outcome}
+use Rattle.lister.specs.declared.Outcome.the-variants.{Whole, Damaged, Unwritten, Unread}
+
+-- `ending`: once the last line is made, and n tells whether all was written
+abbrev pub endingOf : (whole : Bool) (n : ℕ) → Outcome
+endingOf whole n = pick (eqb n lost) Unwritten (pick whole Whole Damaged)
+
+-- the lines of a trace from a progress on end with an outcome
+pub record Ends (s : List ℕ) (progress : Progress) (whole : Bool) : Type 0 where
+  pub bytes : List ℕ
+  pub lines : Lines s progress whole bytes
+
+-- `list` of a trace s, of an input that is `total` bytes long: whole or not, as its lines end, if all was written
+abbrev pub ListsTo : (s : List ℕ) (total : ℕ) → Outcome → Type 0
+ListsTo s total Whole = Ends s (startOf total) true
+ListsTo s total Damaged = Ends s (startOf total) false
+ListsTo s total Unwritten = Unit
+ListsTo s total Unread = ⊥
