@@ -60,7 +60,7 @@ pub record ReadsOn (before : List ℕ) (ahead r : Ahead) (after : List ℕ) : Ty
   pub more : countAhead before ahead ≤ r .to
   pub ended : r .ended ≡ eqb (r .to) (countAhead before ahead)
 
--- what `slide` does, in the order of its tests; open is only which bytes are read and how many: no contract can say
+-- what `slide` does, in the order of its tests; what is read, and how much, no contract can say
 abbrev pub SlidesBy : (before : List ℕ) (ahead r : Ahead) (after : List ℕ) → Type 0
 SlidesBy before ahead r after =
     pick (noneAhead before ahead) (Stays before (record { from = 0; to = 0; ended = ahead .ended }) r after)
