@@ -17,6 +17,9 @@ void make_whole_trace_cases(struct case_file *file);
 void make_run_cases(struct case_file *file);
 void make_listing_cases(struct case_file *file);
 
+/* One trace, as it is; the program that takes it is the lister. */
+void make_lister_case(struct case_file *file);
+
 /* From the traces of a folder; false if one of them is wrong or cannot be read. */
 bool make_named_listing_cases(struct case_file *file, const char *folder);
 

@@ -9,7 +9,8 @@ enum {
     RANDOM_WALKS = 25,
     WALK_EVENTS = 50,
     DAMAGED_WALKS = 80,
-    SHORT_EVENTS = 14
+    SHORT_EVENTS = 14,
+    LISTER_WALKS = 150
 };
 
 static const struct phy_event widest_inbound = {EVENT_OPEN_RECEIVED, {UINT64_MAX, PROTOCOL_STP}};
@@ -231,6 +232,17 @@ static void list_filled(struct case_file *file, uint8_t byte, uint64_t length)
     listing_case(file, &trace);
 }
 
+/* Nothing behind what is too long makes it shorter. */
+static void list_too_long_then_nothing(struct case_file *file)
+{
+    struct pieces trace;
+
+    pieces_clear(&trace);
+    pieces_add_event(&trace, LISTING_MOST_BYTES + 1, plain_event(EVENT_TICK));
+    pieces_add_event(&trace, 0, plain_event(EVENT_TICK));
+    listing_case(file, &trace);
+}
+
 static void list_long_traces(struct case_file *file)
 {
     list_longest(file);
@@ -240,6 +252,7 @@ static void list_long_traces(struct case_file *file)
     list_filled(file, 0x00, LISTING_MOST_BYTES + 1);
     list_filled(file, 0xFF, LISTING_MOST_BYTES + 1);
     list_filled(file, EVENT_TICK, LISTING_MOST_BYTES + 1);
+    list_too_long_then_nothing(file);
 }
 
 /* ---- Seeded walks ---- */
@@ -287,6 +300,20 @@ void make_listing_cases(struct case_file *file)
     list_faults(file);
     list_long_traces(file);
     list_random_walks(file);
+}
+
+/* ---- The lister's own trace ---- */
+
+/* Its listing is more than twice as long as a program's buffer, so that it is written in parts. */
+void make_lister_case(struct case_file *file)
+{
+    struct byte_string walk = random_walk(file, WALK_EVENTS);
+    struct pieces trace;
+
+    pieces_clear(&trace);
+    pieces_add_string(&trace, LISTER_WALKS, &walk);
+    fwrite(trace.whole, 1, trace.length, file->cases);
+    list_trace(file->expected, trace.whole, trace.length);
 }
 
 /* ---- Traces from a folder ---- */

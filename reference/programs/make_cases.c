@@ -13,7 +13,8 @@ enum case_seed {
     SEED_WRITE_EVENT = 7007,
     SEED_TRACE = 8008,
     SEED_RUN = 9009,
-    SEED_LISTING = 10010
+    SEED_LISTING = 10010,
+    SEED_LISTER = 11011
 };
 
 static bool open_cases(struct case_file *file, const char *folder, const char *program)
@@ -83,6 +84,18 @@ static bool make_trace_cases(const char *folder, const char *traces)
     return close_cases(&file) && full && named;
 }
 
+static bool make_lister_trace(const char *folder)
+{
+    struct case_file file;
+
+    if (!open_cases(&file, folder, "lister")) {
+        return false;
+    }
+    file.random = SEED_LISTER;
+    make_lister_case(&file);
+    return close_cases(&file);
+}
+
 int main(int argc, char **argv)
 {
     if (argc != 3) {
@@ -92,6 +105,7 @@ int main(int argc, char **argv)
 
     bool machines = make_machine_cases(argv[1]);
     bool traces = make_trace_cases(argv[1], argv[2]);
+    bool lister = make_lister_trace(argv[1]);
 
-    return machines && traces ? EXIT_SUCCESS : EXIT_FAILURE;
+    return machines && traces && lister ? EXIT_SUCCESS : EXIT_FAILURE;
 }

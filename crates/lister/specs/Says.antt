@@ -1,15 +1,24 @@
--- What the lister's outcome says of the trace that it listed.
-use Prim.Native.Nat.{ℕ}
+-- What the lister's functions say of its input and, by its outcome, of the trace that it listed.
+use Prim.Native.Nat.{ℕ, suc}
 use mathlib.Core.Bool.{Bool, true, false}
 use mathlib.Core.List.{List}
+use mathlib.Core.Logic.{_⊎_}
+use mathlib.Core.Path.{_≡_}
 use lib.Dec.{eqb}
 use Rattle.table.specs.Choice.{pick}
 use Rattle.output.specs.Writing.{lost}
-use Rattle.listing.specs.Listing.{startOf}
+use Rattle.listing.specs.Listing.{mostTrace, startOf}
 use Rattle.listing.specs.Laws.{Lines}
 use Rattle.listing.specs.declared.Progress.{Progress}
+use Rattle.lister.specs.declared.Input.{Input}
+use Rattle.lister.specs.declared.Input.the-variants.{Length, Unread as unread}
 use Rattle.lister.specs.declared.Outcome.{Outcome}
 use Rattle.lister.specs.declared.Outcome.the-variants.{Whole, Damaged, Unwritten, Unread}
+
+-- `total`: the input is as long as what was kept of it, or longer than may be listed, or cannot be read; no contract can say which of them
+abbrev pub Measures : (kept : ℕ) → Input → Type 0
+Measures kept (Length n) = (n ≡ kept) ⊎ ((kept ≡ mostTrace) × (n ≡ suc mostTrace))
+Measures kept unread = Unit
 
 -- `ending`: once the last line is made, and n tells whether all was written
 abbrev pub endingOf : (whole : Bool) (n : ℕ) → Outcome

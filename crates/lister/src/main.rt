@@ -2,7 +2,7 @@
 // in crate `listing`; here they are gathered and written out.
 ghost use mathlib.Core.Path.{_≡_};
 ghost use lib.ListN.{length};
-ghost use Rattle.lister.specs.Says.{endingOf, ListsTo};
+ghost use Rattle.lister.specs.Says.{Measures, endingOf, ListsTo};
 use listing::LineWritten;
 use output::LOST;
 use output::write_out;
@@ -27,14 +27,18 @@ enum Input {
 
 // How long the input is of which this many bytes were kept. The read that kept them cannot tell the
 // input's end from a failure, so one byte more is asked for; it also tells that the input is too long.
-fn total(kept: usize) -> Input {
+fn total(kept: usize) -> Input
+    ensures { λ r. ⌜ Measures kept r ⌝ }
+{
     let mut more = [0u8; 1];
     let got = libc::read(libc::STDIN_FILENO, &mut more);
     if got == 0 {
         return Input::Length(kept);
     }
-    if (got > 0) & (kept == listing::MOST_TRACE) {
-        return Input::Length(listing::MOST_TRACE + 1);
+    if kept == listing::MOST_TRACE {
+        if got > 0 {
+            return Input::Length(listing::MOST_TRACE + 1);
+        }
     }
     os::fail(b"the trace cannot be read");
     Input::Unread
