@@ -4,13 +4,14 @@ use mathlib.Core.List.{List, [], _∷_, _++_}
 use mathlib.Core.Path.{_≡_, refl, sym, ap, ap₂, subst, _∙_}
 use native.Mathlib.Numerals.{add-one}
 use native.Mathlib.Omega.{arith}
+use lib.Dec.{ltb}
 use lib.ListN.{length, drop, getD, length-append, drop-of-length-le}
 use lib.Seq.{sets, set-out, length-sets, drop-cons}
-use Rattle.table.proofs.Laws.{by-order}
+use Rattle.table.proofs.Laws.{by-test, by-order}
 use Rattle.table.proofs.Stores.{sets-on}
 use Rattle.output.specs.Writing.{further, more, reached, gathered, lost}
 use Rattle.output.specs.Contracts.{Puts, PutsAll, WritesOut, PutsLine}
-use Rattle.output.specs.Laws.{PutsStayLost, LinesStayLost}
+use Rattle.output.specs.Laws.{PutsStayLost, LinesStayLost, OutStaysLost}
 
 sets-out : (buffer xs : List ℕ) (at : ℕ) → length buffer ≤ at → sets buffer at xs ≡ buffer
 sets-out buffer [] at h = refl
@@ -96,3 +97,6 @@ pub lines-stay-lost : LinesStayLost
 lines-stay-lost bytes before r after h p =
     let there : reached (length before) lost (length bytes) ≡ lost = omega arith in
     (rw there at (p .there), p .stored ∙ sets-out before bytes lost h)
+
+pub out-stays-lost : OutStaysLost
+out-stays-lost least r w = by-test (ltb lost least) (λ t. rw t at w) (λ t. rw t at w)

@@ -59,3 +59,7 @@ PutsStayLost = (bytes : List ℕ) → StaysLost (Puts bytes)
 
 abbrev pub LinesStayLost : Type 0
 LinesStayLost = (bytes : List ℕ) → StaysLost (PutsLine bytes)
+
+-- and `write_out` answers with it again
+abbrev pub OutStaysLost : Type 0
+OutStaysLost = (least r : ℕ) → WritesOut lost least r → r ≡ lost

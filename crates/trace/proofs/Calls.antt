@@ -3,27 +3,36 @@ use Prim.Native.Nat.{ℕ, _≤_}
 use mathlib.Core.List.{List, [], _∷_, map}
 use mathlib.Core.Path.{_≡_, refl, sym, ap, ap₂, subst, _∙_}
 use native.Mathlib.Omega.{arith}
-use lib.ListN.{length, take, drop, replicate}
-use denote.Ref.{now}
+use lib.ListN.{length, take, drop, replicate, drop-of-length-le}
+use lib.Seq.{take-all}
+use denote.Ref.{RefT, now}
 use Rattle.event.specs.declared.Event.{Event}
-use Rattle.trace.specs.Reading.{Told, event, end, refused, eventOf, eventGiven, placeReached, tells}
+use Rattle.trace.specs.Reading.{Told, event, end, refused, eventOf, readEvent, eventGiven, placeReached, tells}
 use Rattle.trace.specs.Contracts.{ReadsEvent, TakesNext}
-use Rattle.trace.specs.Laws.{Passes, here, on, Calls, uncalled, called, NoEvent, GivesEvents, nothing, given, FaultStays, StaysPut, FirstEvents}
+use Rattle.trace.specs.Laws.{Passes, here, on, ReadsAll, ended, taken, Calls, uncalled, called, GivesEvents, nothing, given, FaultStays, StaysPut, FirstEvents, CalledBack}
 use Rattle.trace.specs.declared.EventRead.{EventRead}
 use Rattle.trace.specs.declared.EventRead.the-variants.{Event as Known}
 use Rattle.trace.specs.declared.Reader.{Reader}
 use Rattle.trace.proofs.Determined.{read-tells-once, read-determined, same-reader}
 use Rattle.trace.proofs.Refusals.{fault-at-first}
+use Rattle.trace.proofs.Written.{all-written}
 
 -- ---- no event
 
+-- what is said is no event: the trace's end or a fault
+abbrev NoEvent : Told → Type 0
+NoEvent t = (e : Event) (next : ℕ) → t ≡ event e next → ⊥
+
+not-refused : {e : Event} {next n at : ℕ} → event e next ≡ refused n at → ⊥
+not-refused h = let z : _≡_ {A = ℕ} 0 1 = cc in omega arith
+
 no-move : (t : Told) → NoEvent t → (place : ℕ) → placeReached place t ≡ place
-no-move (event e next) n place = absurd n
+no-move (event e next) n place = absurd (n e next refl)
 no-move end n place = refl
 no-move (refused k at) n place = refl
 
 zero-given : (t : Told) → NoEvent t → eventGiven t ≡ eventOf 0 []
-zero-given (event e next) n = absurd n
+zero-given (event e next) n = absurd (n e next refl)
 zero-given end n = refl
 zero-given (refused k at) n = refl
 
@@ -33,7 +42,7 @@ still {before} {r} t n = same-reader (t .holds) (t .there ∙ ap (placeReached (
 
 pub fault-stays : FaultStays
 fault-stays before r after n at t e =
-    let none : NoEvent (tells r) = rw e tt in
+    let none : NoEvent (tells r) = λ f next h. not-refused (sym h ∙ e) in
     record {
       first = fault-at-first (now (before .trace)) (before .place) n at (sym (t .says) ∙ e) .first;
       zeros = zero-given (tells r) none;
@@ -76,3 +85,30 @@ first-events trace start after es last rs new p c h =
     let at-first = same-reader {q = record { trace = trace; place = 0 }} (new .holds) (new .first) in
     let g = first-from rs p (subst (λ (m : Reader). Calls m rs after) at-first c) h in
     record { answers = g .0; events = events-of (g .0); others = g .1 }
+
+-- ---- events that were written: reading them all passes them by, to the trace's end
+
+record Passed (s : List ℕ) (place : ℕ) (es : List Event) : Type 0 where
+  pub last : ℕ
+  pub passes : Passes s place es last
+  pub over : readEvent s last ≡ end
+
+passed : {s : List ℕ} {place : ℕ} {es : List Event} → ReadsAll s place es → Passed s place es
+passed (ended {place = place} e) = record { last = place; passes = here; over = e }
+passed (taken e r) = let p = passed r in record { last = p .last; passes = on e (p .passes); over = p .over }
+
+no-more : {s : List ℕ} {place last : ℕ} → Passes s place [] last → place ≡ last
+no-more here = refl
+
+trace-kept : {start after : Reader} {rs : List EventRead} → Calls start rs after → after .trace ≡ start .trace
+trace-kept uncalled = refl
+trace-kept (called t c) = trace-kept c ∙ t .holds
+
+pub called-back : CalledBack
+called-back es before after last w trace start middle there rs r same new c long t =
+    let back : ReadsAll (now trace) 0 es = rw same (all-written es before 0 after last (omega arith) w .back) in
+    let p = passed back in
+    let g = first-events trace start middle es (p .last) rs new (p .passes) c (omega arith) in
+    let at-last : middle .place ≡ p .last = no-more (subst (λ (l : List Event). Passes (now trace) (middle .place) l (p .last)) (drop-of-length-le es {i = length rs} (omega arith)) (g .others)) in
+    let held : middle .trace ≡ trace = trace-kept c ∙ new .holds in
+    (g .events ∙ take-all (length rs) es (omega arith), t .says ∙ ap₂ (λ (l : RefT (List ℕ)) (n : ℕ). readEvent (now l) n) held at-last ∙ p .over)

@@ -285,12 +285,6 @@ pub data Calls : Reader → List EventRead → Reader → Type 0 where
       {before middle after : Reader} {r : EventRead} {rs : List EventRead}
       → TakesNext before r middle → Calls middle rs after → Calls before (r ∷ rs) after
 
--- what is said is no event: the trace's end or a fault
-abbrev pub NoEvent : Told → Type 0
-NoEvent (event e next) = ⊥
-NoEvent end = Unit
-NoEvent (reading.refused n at) = Unit
-
 -- each later answer is the same, its event is zero, and the reader is as it was
 pub record Stopped (before : Reader) (r : EventRead) (rs : List EventRead) (after : Reader) : Type 0 where
   pub same : rs ≡ replicate (length rs) r
@@ -301,7 +295,7 @@ pub record Stopped (before : Reader) (r : EventRead) (rs : List EventRead) (afte
 abbrev pub StaysPut : Type 0
 StaysPut =
     (before after : Reader) (r : EventRead) (rs : List EventRead)
-    → Calls before (r ∷ rs) after → NoEvent (tells r) → Stopped before r rs after
+    → Calls before (r ∷ rs) after → ((e : Event) (next : ℕ) → tells r ≡ event e next → ⊥) → Stopped before r rs after
 
 -- the answers are events read end to end from a place on, each with the place after it; the last place is `last`
 pub data GivesEvents (s : List ℕ) : ℕ → List EventRead → List Event → ℕ → Type 0 where
@@ -323,6 +317,14 @@ FirstEvents =
     (trace : RefT (List ℕ)) (start after : Reader) (es : List Event) (last : ℕ) (rs : List EventRead)
     → StartsReader trace start → Passes (now trace) 0 es last → Calls start rs after → length rs ≤ length es
     → FirstGiven (now trace) es last rs after
+
+-- what calls of `write_event` wrote into a buffer from its start on, as many calls of a new reader give back, and the next one the trace's end
+abbrev pub CalledBack : Type 0
+CalledBack =
+    (es : List Event) (before after : List ℕ) (last : ℕ) → WritesAll before 0 es after last
+    → (trace : RefT (List ℕ)) (start middle there : Reader) (rs : List EventRead) (r : EventRead)
+    → now trace ≡ take last after → StartsReader trace start → Calls start rs middle → length rs ≡ length es → TakesNext middle r there
+    → (map (λ q. eventGiven (tells q)) rs ≡ es) × (tells r ≡ end)
 
 -- ---- one form for each event (proofs/OneForm, which nothing else cites: padded numbers will remove it)
 
