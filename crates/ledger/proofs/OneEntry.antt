@@ -7,7 +7,7 @@ use native.Mathlib.Omega.{arith}
 use borrow.Author.Tests.{eq-eqb, eqb-true, leb-true, leb-false}
 use lib.Dec.{eqb, leb}
 use Rattle.table.specs.Choice.{pick}
-use Rattle.table.proofs.Laws.{by-test, by-pick, parts}
+use Rattle.table.proofs.Laws.{apart, by-test, by-pick, parts}
 use Rattle.table.specs.Refusals.{badEvent}
 use Rattle.event.specs.Names.{txOpen, tick, aipReceived, mostWait}
 use Rattle.event.specs.Table.{openOf, knownOf}
@@ -158,8 +158,8 @@ module _ (p : Phy) (e : Event) (v : validOf p ≡ true) (k : knownOf e ≡ true)
   agree-moved broken a s = absurd a
 
 pub not-broken : (p : Phy) (l : Ledger) → Agrees p l → l ≡ broken → ⊥
-not-broken p free a q = let z : _≡_ {A = ℕ} 0 1 = cc in omega arith
-not-broken p (waiting w) a q = let z : _≡_ {A = ℕ} 0 1 = cc in omega arith
+not-broken p free a q = apart cc
+not-broken p (waiting w) a q = apart cc
 not-broken p broken a q = a
 
 -- books and phy agree after any event: a refused one changes neither

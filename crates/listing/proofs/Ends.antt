@@ -7,7 +7,7 @@ use native.Mathlib.Omega.{arith}
 use borrow.Author.Tests.{leb-true, leb-false}
 use lib.ListN.{length}
 use Rattle.table.specs.Refusals.{noRoom}
-use Rattle.table.proofs.Laws.{by-test}
+use Rattle.table.proofs.Laws.{apart, by-test}
 use Rattle.trace.specs.Reading.{Told, event, end, readEvent}
 use Rattle.trace.specs.Reading as reading
 use Rattle.trace.specs.Laws.{MovesOn}
@@ -19,10 +19,6 @@ use Rattle.listing.specs.Contracts.{wrote, finished, refused, fits, byte
 use Rattle.listing.specs.Laws.{linesLeft, LinesFall, WrittenAdvances, FinishedComes, RoomEnough}
 use Rattle.listing.specs.declared.Progress.{Progress}
 use Rattle.listing.specs.declared.Progress.the-variants.{Header, Events, TooLong, Done}
-
--- two answers that differ are not equal
-pub clash : {A : Type 0} → _≡_ {A = ℕ} 0 1 → A
-clash e = absurd (omega arith)
 
 -- the progress after a line is the one that the line gives
 after-line : (s : List ℕ) (k : ℕ) {bytes others : List ℕ} {next progress : Progress} → lineOf bytes next ≡ lineOf others progress → linesLeft s next < k → linesLeft s progress < k
@@ -43,7 +39,7 @@ unfolding lineAt
 lines-fall s Header bytes next e = after-line s _ e (omega arith)
 lines-fall s (Events place count p) bytes next e = fall s place count p (readEvent s place) refl e
 lines-fall s TooLong bytes next e = after-line s _ e (omega arith)
-lines-fall s (Done whole) bytes next e = clash (cc)
+lines-fall s (Done whole) bytes next e = apart cc
 
 -- a line that is said to be written comes next, and fits
 record Written (x : Next) (before : List ℕ) (at : ℕ) (next : Progress) (n : ℕ) : Type 0 where
@@ -59,8 +55,8 @@ written-line (lineOf bytes progress) before at next n e =
     let long : length bytes ≡ n = cc in
     let same : progress ≡ next = cc in
     record { bytes = bytes; comes = rw same refl; room = omega (arith, leb-true (at + length bytes) (length before) t) })
-    (λ f. let w : refused noRoom ≡ wrote next n = rw f at e in clash (cc))
-written-line (noLine whole) before at next n e = clash (cc)
+    (λ f. let w : refused noRoom ≡ wrote next n = rw f at e in apart cc)
+written-line (noLine whole) before at next n e = apart cc
 
 pub written-advances : WrittenAdvances
 written-advances s progress before at r after next n w e =
@@ -70,8 +66,8 @@ written-advances s progress before at r after next n w e =
 finished-line : (x : Next) (before : List ℕ) (at : ℕ) (whole : Bool) → writeNext x before at ≡ finished whole → x ≡ noLine whole
 finished-line (lineOf bytes progress) before at whole e =
     by-test (fits bytes before at)
-    (λ t. let w : wrote progress (length bytes) ≡ finished whole = rw t at e in clash (cc))
-    (λ f. let w : refused noRoom ≡ finished whole = rw f at e in clash (cc))
+    (λ t. let w : wrote progress (length bytes) ≡ finished whole = rw t at e in apart cc)
+    (λ f. let w : refused noRoom ≡ finished whole = rw f at e in apart cc)
 finished-line (noLine told) before at whole e = let same : told ≡ whole = cc in ap noLine same
 
 pub finished-comes : FinishedComes
@@ -80,9 +76,9 @@ finished-comes s progress before at r after whole w e = finished-line (lineAt s 
 refused-line : (x : Next) (before : List ℕ) (at : ℕ) → writeNext x before at ≡ refused noRoom → length (bytesOf x) ≤ mostLine → length before < at + mostLine
 refused-line (lineOf bytes progress) before at e short =
     by-test (fits bytes before at)
-    (λ t. let w : wrote progress (length bytes) ≡ refused noRoom = rw t at e in clash (cc))
+    (λ t. let w : wrote progress (length bytes) ≡ refused noRoom = rw t at e in apart cc)
     (λ f. omega (arith, leb-false (at + length bytes) (length before) f))
-refused-line (noLine whole) before at e short = clash (cc)
+refused-line (noLine whole) before at e short = apart cc
 
 pub room-enough : RoomEnough
 room-enough s progress before at r after w e = refused-line (lineAt s progress) before at (sym (w .says) ∙ e) (w .short)

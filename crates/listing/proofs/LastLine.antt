@@ -5,6 +5,7 @@ use mathlib.Core.Path.{_≡_, sym, ap, ap₂, subst, _∙_}
 use native.Mathlib.Nat.{zero-add}
 use native.Mathlib.Omega.{arith}
 use lib.ListN.{length}
+use Rattle.table.proofs.Laws.{apart}
 use Rattle.event.specs.declared.Event.{Event}
 use Rattle.trace.specs.Laws.{ReadsAll}
 use Rattle.trace.specs.Laws as trace
@@ -15,7 +16,6 @@ use Rattle.phy.specs.declared.Phy.{Phy}
 use Rattle.listing.specs.Lines.{headerLine, eventLine, endLine}
 use Rattle.listing.specs.Listing.{ListsFrom, ended, stopped, taken, listed, tooLong}
 use Rattle.listing.specs.Laws.{EndsWith, EndTells}
-use Rattle.listing.proofs.Ends.{clash}
 
 -- more bytes in front change nothing
 further : {bytes last : List ℕ} (first : List ℕ) → EndsWith bytes last → EndsWith (first ++ bytes) last
@@ -25,10 +25,10 @@ ends : {s : List ℕ} {place count : ℕ} {p : Phy} {bytes : List ℕ} {es : Lis
     → EndsWith bytes (endLine (length s) (count + length es))
 ends {s} {place} {count} h (trace.ended e) (ended f) =
     record { front = []; whole = ap₂ endLine (omega (arith, end-exactly s place .0 e)) (omega arith) }
-ends h (trace.ended e) (stopped f) = let w = sym e ∙ f in clash (cc)
-ends h (trace.ended e) (taken f l) = let w = sym e ∙ f in clash (cc)
-ends h (trace.taken e r) (ended f) = let w = sym e ∙ f in clash (cc)
-ends h (trace.taken e r) (stopped f) = let w = sym e ∙ f in clash (cc)
+ends h (trace.ended e) (stopped f) = let w = sym e ∙ f in apart cc
+ends h (trace.ended e) (taken f l) = let w = sym e ∙ f in apart cc
+ends h (trace.taken e r) (ended f) = let w = sym e ∙ f in apart cc
+ends h (trace.taken e r) (stopped f) = let w = sym e ∙ f in apart cc
 ends {s} {place} {count} h (trace.taken {e = v} {next = next} {es = es} e r) (taken {next = after} {p = p} {e = u} {others = others} f l) =
     let w = sym e ∙ f in
     let same : after ≡ next = cc in

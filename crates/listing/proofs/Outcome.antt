@@ -8,7 +8,7 @@ use native.Mathlib.Omega.{arith}
 use borrow.Author.Tests.{leb-true, leb-false}
 use lib.Dec.{leb}
 use lib.ListN.{length}
-use Rattle.table.proofs.Laws.{by-test}
+use Rattle.table.proofs.Laws.{apart, by-test}
 use Rattle.event.specs.declared.Event.{Event}
 use Rattle.trace.specs.Reading.{Told, event, end, readEvent}
 use Rattle.trace.specs.Reading as reading
@@ -22,7 +22,6 @@ use Rattle.listing.specs.Lines.{headerLine, tooLongLine}
 use Rattle.listing.specs.Laws.{Lines, over, more, WholeExactly}
 use Rattle.listing.specs.declared.Progress.{Progress}
 use Rattle.listing.specs.declared.Progress.the-variants.{Header, Events, TooLong, Done}
-use Rattle.listing.proofs.Ends.{clash}
 use Rattle.listing.proofs.Whole.{something, after-last, first-line}
 
 -- from a place on the trace is read to its end without a fault
@@ -38,7 +37,7 @@ after-event {e = e} h r = record { events = e ∷ r .events; reads = trace.taken
 others :
     {s : List ℕ} {place next : ℕ} {e : Event} {es : List Event} → readEvent s place ≡ event e next → ReadsAll s place es
     → Read s next
-others h (trace.ended k) = let w = sym k ∙ h in clash (cc)
+others h (trace.ended k) = let w = sym k ∙ h in apart cc
 others {s} {next = next} h (trace.taken {next = after} {es = es} k r) =
     let w = sym k ∙ h in
     let same : after ≡ next = cc in
@@ -47,8 +46,8 @@ others {s} {next = next} h (trace.taken {next = after} {es = es} k r) =
 -- none comes after a fault
 no-others :
     {s : List ℕ} {place n at : ℕ} {es : List Event} → readEvent s place ≡ reading.refused n at → ReadsAll s place es → ⊥
-no-others h (trace.ended k) = let w = sym k ∙ h in clash (cc)
-no-others h (trace.taken k r) = let w = sym k ∙ h in clash (cc)
+no-others h (trace.ended k) = let w = sym k ∙ h in apart cc
+no-others h (trace.taken k r) = let w = sym k ∙ h in apart cc
 
 not-whole : {whole : Bool} → whole ≡ false → whole ≡ true → ⊥
 not-whole f t = false≢true (sym f ∙ t)

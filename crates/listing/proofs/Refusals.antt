@@ -2,10 +2,9 @@
 use Prim.Native.Nat.{ℕ, _+_}
 use mathlib.Core.Bool.{Bool}
 use mathlib.Core.Path.{_≡_, refl}
-use native.Mathlib.Omega.{arith}
 use borrow.Author.Tests.{leb-false, lt-leb}
 use lib.ListN.{length}
-use Rattle.table.proofs.Laws.{by-test}
+use Rattle.table.proofs.Laws.{apart, by-test}
 use Rattle.listing.specs.Listing.{lineOf, noLine}
 use Rattle.listing.specs.Contracts.{wrote, finished, refused, fits}
 use Rattle.listing.specs.Laws.{NoRoomExactly, NoRoomKeeps}
@@ -14,10 +13,10 @@ use Rattle.listing.proofs.Whole.{no-line}
 
 -- neither a line written nor the end of a listing is a refusal
 not-wrote : {next : Progress} {n k : ℕ} → wrote next n ≡ refused k → ⊥
-not-wrote e = let z : _≡_ {A = ℕ} 0 1 = cc in omega arith
+not-wrote e = apart cc
 
 not-finished : {whole : Bool} {k : ℕ} → finished whole ≡ refused k → ⊥
-not-finished e = let z : _≡_ {A = ℕ} 0 1 = cc in omega arith
+not-finished e = apart cc
 
 pub no-room-exactly : NoRoomExactly
 no-room-exactly (lineOf bytes next) buffer at = (

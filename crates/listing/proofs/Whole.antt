@@ -7,7 +7,7 @@ use native.Mathlib.Omega.{arith}
 use borrow.Author.Tests.{leb-true, leb-false}
 use lib.Dec.{leb}
 use lib.ListN.{length}
-use Rattle.table.proofs.Laws.{by-test}
+use Rattle.table.proofs.Laws.{apart, by-test}
 use Rattle.trace.specs.Reading.{Told, event, end, readEvent}
 use Rattle.trace.specs.Reading as reading
 use Rattle.trace.specs.Laws.{MovesOn}
@@ -20,11 +20,11 @@ use Rattle.listing.specs.Lines.{headerLine, eventLine}
 use Rattle.listing.specs.Laws.{linesLeft, Lines, over, more, LinesFrom, ListingExists, ListingOnce, LinesAreListing}
 use Rattle.listing.specs.declared.Progress.{Progress}
 use Rattle.listing.specs.declared.Progress.the-variants.{Header, Events, TooLong, Done}
-use Rattle.listing.proofs.Ends.{clash, lines-fall}
+use Rattle.listing.proofs.Ends.{lines-fall}
 
 -- where a line comes there is not none
 pub no-line : {bytes : List ℕ} {next : Progress} {whole : Bool} → lineOf bytes next ≡ noLine whole → ⊥
-no-line e = clash (cc)
+no-line e = apart cc
 
 -- and one comes of every place
 pub something : (place count : ℕ) (p : Phy) {whole : Bool} (t : Told) → afterReading place count p t ≡ noLine whole → ⊥

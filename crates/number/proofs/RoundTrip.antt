@@ -3,7 +3,7 @@ use Prim.Native.Nat.{ℕ, zero, suc, _+_, _-_, _/_, _%_, _^_, _≤_, _<_}
 use mathlib.Core.Bool.{Bool, true, false, true≢false}
 use mathlib.Core.List.{List, _++_}
 use mathlib.Core.Path.{_≡_, refl, ap, _∙_}
-use Rattle.table.proofs.Laws.{by-test, by-order}
+use Rattle.table.proofs.Laws.{apart, by-test, by-order}
 use native.Mathlib.Nat.{add-suc, suc-add}
 use native.Mathlib.Numerals.{add-one}
 use native.Mathlib.Omega.{arith}
@@ -20,7 +20,7 @@ wrote-is : {m n : ℕ} → wrote m ≡ wrote n → m ≡ n
 wrote-is e = cc
 
 pub refused-not-wrote : {m n : ℕ} → writing.refused m ≡ wrote n → ⊥
-refused-not-wrote e = let z : _≡_ {A = ℕ} 0 1 = cc in omega arith
+refused-not-wrote e = apart cc
 
 -- a group that is not zero, or is the first, ends a number
 ends : (first : Bool) (g next : ℕ) → (first ≡ false → 0 < g) → lastGroup first g g next ≡ value g next

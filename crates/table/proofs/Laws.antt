@@ -39,6 +39,10 @@ pub by-test : {A : Type 0} (test : Bool) → (test ≡ true → A) → (test ≡
 by-test true a b = a refl
 by-test false a b = b refl
 
+-- numbers that would tell two equal things apart: `cc` finds them where constructors differ
+pub apart : {A : Type 0} → _≡_ {A = ℕ} 0 1 → A
+apart e = absurd (omega arith)
+
 -- both parts of a test that holds
 pub parts : (a b : Bool) → a && b ≡ true → (a ≡ true) × (b ≡ true)
 parts true b e = (refl, e)

@@ -6,6 +6,7 @@ use native.Mathlib.Omega.{arith}
 use lib.ListN.{length, take, drop, replicate, drop-of-length-le}
 use lib.Seq.{take-all}
 use denote.Ref.{RefT, now}
+use Rattle.table.proofs.Laws.{apart}
 use Rattle.event.specs.declared.Event.{Event}
 use Rattle.trace.specs.Reading.{Told, event, end, refused, eventOf, readEvent, eventGiven, placeReached, tells}
 use Rattle.trace.specs.Contracts.{ReadsEvent, TakesNext}
@@ -24,7 +25,7 @@ abbrev NoEvent : Told → Type 0
 NoEvent t = (e : Event) (next : ℕ) → t ≡ event e next → ⊥
 
 not-refused : {e : Event} {next n at : ℕ} → event e next ≡ refused n at → ⊥
-not-refused h = let z : _≡_ {A = ℕ} 0 1 = cc in omega arith
+not-refused h = apart cc
 
 no-move : (t : Told) → NoEvent t → (place : ℕ) → placeReached place t ≡ place
 no-move (event e next) n place = absurd (n e next refl)

@@ -8,7 +8,7 @@ use native.Mathlib.Omega.{arith}
 use borrow.Author.Tests.{lt-leb, leb-false}
 use lib.ListN.{length, drop}
 use Rattle.table.specs.Refusals.{badEvent, cut, overlong, tooLarge}
-use Rattle.table.proofs.Laws.{by-test}
+use Rattle.table.proofs.Laws.{apart, by-test}
 use Rattle.number.specs.Reading.{value, readNumber}
 use Rattle.number.specs.Reading as number
 use Rattle.number.proofs.Refusals as number-laws
@@ -95,7 +95,7 @@ refused-is : {m n : ℕ} → writing.refused m ≡ writing.refused n → m ≡ n
 refused-is e = cc
 
 pub refused-not-wrote : {m n : ℕ} → writing.refused m ≡ wrote n → ⊥
-refused-not-wrote e = let z : _≡_ {A = ℕ} 0 1 = cc in omega arith
+refused-not-wrote e = apart cc
 
 module _ (e : Event) (buffer : List ℕ) (place : ℕ) where
   -- by whether it is known and whether it fits

@@ -8,6 +8,7 @@ use native.Mathlib.Omega.{arith}
 use borrow.Author.Tests.{leb-true}
 use lib.ListN.{length, take, drop, getD, length-append, length-drop}
 use lib.Seq.{sets, sets-eq, take-at, length-take-le}
+use Rattle.table.proofs.Laws.{apart}
 use Rattle.table.proofs.Stores.{stored-from}
 use Rattle.number.specs.Writing.{numberBytes}
 use Rattle.event.specs.Table.{argumentsOf, argumentCount, knownOf}
@@ -135,7 +136,7 @@ event-is : {e f : Event} {m n : ℕ} → event e m ≡ event f n → (e ≡ f) �
 event-is h = (cc, cc)
 
 not-ended : {e : Event} {n : ℕ} → end ≡ event e n → ⊥
-not-ended h = let z : _≡_ {A = ℕ} 0 1 = cc in omega arith
+not-ended h = apart cc
 
 pub reads-once : ReadsOnce
 reads-once s place es fs (ended a) (ended b) = refl
