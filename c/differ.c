@@ -48,6 +48,13 @@ uint64_t random_any(void)
     return random_number() >> random_below(64);
 }
 
+void spoil_flag(uint64_t *const *flags, uint64_t count)
+{
+    uint64_t *flag = flags[random_below(count)];
+
+    *flag = one_in(2) ? 2 : UINT64_MAX;
+}
+
 /* ---- Differences ---- */
 
 void differ(const char *what)
@@ -74,11 +81,6 @@ void same_bytes(const char *what, const uint8_t *ours, const uint8_t *theirs, si
 
 /* ---- Phys and events ---- */
 
-bool phy_flags_good(const struct louravela_phy *phy)
-{
-    return phy->closed <= 1 && phy->accept <= 1;
-}
-
 struct phy their_phy(const struct louravela_phy *phy)
 {
     struct phy result = {
@@ -91,8 +93,8 @@ struct phy their_phy(const struct louravela_phy *phy)
         .source = phy->source,
         .inbound_protocol = phy->inbound,
         .connection_protocol = phy->connection,
-        .far_closed = phy->closed == 1,
-        .accept = phy->accept == 1
+        .far_closed = phy->closed,
+        .accept = phy->accept
     };
 
     return result;
@@ -158,8 +160,13 @@ struct louravela_event random_event(void)
 
 struct louravela_phy damaged_phy(struct louravela_phy phy)
 {
+    uint64_t *const flags[] = {&phy.closed, &phy.accept};
     uint64_t numbers[PHY_FIELDS];
 
+    if (one_in(4)) {
+        spoil_flag(flags, sizeof flags / sizeof flags[0]);
+        return phy;
+    }
     memcpy(numbers, &phy, sizeof phy);
     for (uint64_t times = 1 + random_below(3); times > 0; times--) {
         numbers[random_below(PHY_FIELDS)] = one_in(2) ? random_below(8) : random_any();

@@ -18,13 +18,15 @@ extern unsigned long long compared_numbers;
 bool one_in(uint64_t chances);
 uint64_t random_any(void);
 
+/* One of the flags becomes a number that is neither 0 nor 1. */
+void spoil_flag(uint64_t *const *flags, uint64_t count);
+
 /* Differences, counted, and the first of them printed. */
 void differ(const char *what);
 void same(const char *what, uint64_t ours, uint64_t theirs);
 void same_bytes(const char *what, const uint8_t *ours, const uint8_t *theirs, size_t length);
 
-/* The reference has a phy of the same fields if the flags are good. */
-bool phy_flags_good(const struct louravela_phy *phy);
+/* The reference's phy of the same fields. */
 struct phy their_phy(const struct louravela_phy *phy);
 void same_open(const struct louravela_open *ours, const struct phy_request *theirs);
 void same_phy(const struct louravela_phy *ours, const struct phy *theirs);
@@ -32,6 +34,8 @@ void same_phy(const struct louravela_phy *ours, const struct phy *theirs);
 /* A known event is valid; of the random ones some have any number in one of their fields. */
 struct louravela_event known_event(void);
 struct louravela_event random_event(void);
+
+/* With any numbers in some fields, or good but for a flag. */
 struct louravela_phy damaged_phy(struct louravela_phy phy);
 
 /* Steps of the machines. */

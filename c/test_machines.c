@@ -57,9 +57,12 @@ static void test_fresh(void)
     EXPECT_SAME(phy, wanted);
 }
 
+static const uint64_t no_flags[] = {2, 255, 256, UINT64_C(1) << 32, UINT64_MAX};
+
 static void test_bad_states(void)
 {
-    static const uint64_t no_flags[] = {2, 255, 256, UINT64_C(1) << 32, UINT64_MAX};
+    struct louravela_phy connected =
+        after(after(louravela_phy_fresh(), tx_open(5)), event_of(LOURAVELA_OPEN_ACCEPT_RECEIVED));
     struct louravela_event tick = event_of(LOURAVELA_TICK);
     struct louravela_event unknown = event_of(16);
 
@@ -72,6 +75,8 @@ static void test_bad_states(void)
         phy.accept = 0;
         phy.closed = no_flags[i];
         EXPECT_REFUSED(phy, tick, LOURAVELA_BAD_STATE);
+        connected.closed = no_flags[i];
+        EXPECT_REFUSED(connected, event_of(LOURAVELA_CLOSE_CONNECTION), LOURAVELA_BAD_STATE);
     }
     for (size_t field = 0; field < sizeof(struct louravela_phy) / sizeof(uint64_t); field++) {
         uint64_t numbers[sizeof(struct louravela_phy) / sizeof(uint64_t)];
@@ -248,17 +253,19 @@ static void test_identify_refusals(void)
     EXPECT_IDENTIFY_REFUSED(state, LOURAVELA_IDENTIFY_SOAF, 1, LOURAVELA_BAD_EVENT);
     EXPECT_IDENTIFY_REFUSED(state, LOURAVELA_IDENTIFY_EOAF, 2, LOURAVELA_BAD_EVENT);
     EXPECT_IDENTIFY_REFUSED(state, LOURAVELA_IDENTIFY_DATA_DWORD, UINT64_C(1) << 32, LOURAVELA_BAD_EVENT);
-    state.typed = 2;
-    EXPECT_IDENTIFY_REFUSED(state, 8, 0, LOURAVELA_BAD_STATE);
-    state.typed = 0;
-    state.got = UINT64_MAX;
-    EXPECT_IDENTIFY_REFUSED(state, LOURAVELA_IDENTIFY_ENABLE, 0, LOURAVELA_BAD_STATE);
-    state.got = 0;
-    state.sent = 256;
-    EXPECT_IDENTIFY_REFUSED(state, LOURAVELA_IDENTIFY_ENABLE, 0, LOURAVELA_BAD_STATE);
-    state.sent = 0;
     state.timer = 1;
     EXPECT_IDENTIFY_REFUSED(state, LOURAVELA_IDENTIFY_TICK, 0, LOURAVELA_BAD_STATE);
+    for (size_t i = 0; i < sizeof no_flags / sizeof no_flags[0]; i++) {
+        state = louravela_identify_fresh();
+        state.typed = no_flags[i];
+        EXPECT_IDENTIFY_REFUSED(state, 8, 0, LOURAVELA_BAD_STATE);
+        state.typed = 0;
+        state.got = no_flags[i];
+        EXPECT_IDENTIFY_REFUSED(state, LOURAVELA_IDENTIFY_ENABLE, 0, LOURAVELA_BAD_STATE);
+        state.got = 0;
+        state.sent = no_flags[i];
+        EXPECT_IDENTIFY_REFUSED(state, LOURAVELA_IDENTIFY_ENABLE, 0, LOURAVELA_BAD_STATE);
+    }
 }
 
 void test_machines(void)

@@ -85,17 +85,21 @@ static void test_run_refusals(void)
 {
     struct louravela_phy fresh = louravela_phy_fresh();
     struct louravela_phy invalid = fresh;
-    struct louravela_phy no_flag = fresh;
+    struct louravela_phy closed = fresh;
+    struct louravela_phy accept = fresh;
 
     invalid.timer = 1;
-    no_flag.closed = 2;
+    closed.closed = 2;
+    accept.accept = UINT64_MAX;
     EXPECT_RUN_REFUSED(fresh, 3, 2, LOURAVELA_NO_ROOM);
     EXPECT_RUN_REFUSED(fresh, SIZE_MAX, ROOM, LOURAVELA_NO_ROOM);
     EXPECT_RUN_REFUSED(invalid, 3, ROOM, LOURAVELA_BAD_STATE);
     EXPECT_RUN_REFUSED(invalid, 0, 0, LOURAVELA_BAD_STATE);
     EXPECT_RUN_REFUSED(invalid, 3, 2, LOURAVELA_BAD_STATE);
-    EXPECT_RUN_REFUSED(no_flag, 3, ROOM, LOURAVELA_BAD_STATE);
-    EXPECT_RUN_REFUSED(no_flag, 3, 2, LOURAVELA_BAD_STATE);
+    EXPECT_RUN_REFUSED(closed, 3, ROOM, LOURAVELA_BAD_STATE);
+    EXPECT_RUN_REFUSED(closed, 3, 2, LOURAVELA_BAD_STATE);
+    EXPECT_RUN_REFUSED(accept, 3, ROOM, LOURAVELA_BAD_STATE);
+    EXPECT_RUN_REFUSED(accept, 3, 2, LOURAVELA_BAD_STATE);
 }
 
 /* ---- Events of a trace ---- */

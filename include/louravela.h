@@ -24,7 +24,7 @@
 #include <stdint.h>
 
 /* The version of this header and of the archives that are built beside it. */
-#define LOURAVELA_VERSION "4.0.0"
+#define LOURAVELA_VERSION "4.1.0"
 
 #ifdef __cplusplus
 extern "C" {
@@ -34,7 +34,7 @@ extern "C" {
 
 enum {
     LOURAVELA_TAKEN = 0,
-    LOURAVELA_BAD_STATE = 1,       /* the state handed in is not a valid one, or a flag is neither 0 nor 1 */
+    LOURAVELA_BAD_STATE = 1,       /* the state handed in is not a valid one; none with a flag that is neither 0 nor 1 is */
     LOURAVELA_BAD_EVENT = 2,       /* unknown code, an argument out of range, or one that the event lacks and is not 0 */
     LOURAVELA_BUSY = 3,            /* Tx Open, and the port is not in P1 */
     LOURAVELA_NOTHING_PENDING = 4, /* Cancel Open, and the port is not in P2 */

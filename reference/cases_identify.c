@@ -5,15 +5,22 @@
 #include <assert.h>
 
 enum {
-    FIELDS = 7,
-    FIELD_RECEIVER = 0,
-    FIELD_COUNT = 1,
-    FIELD_TIMER = 5,
-    FIELD_OUTCOME = 6,
     MOST_STEPS = 1300,
     MOST_STATES = 200,
     SEEDED_WALKS = 60,
     SEEDED_STEPS = 100
+};
+
+/* The order in which cases and lines carry a record. */
+enum identify_field {
+    FIELD_RECEIVER,
+    FIELD_COUNT,
+    FIELD_TYPED,
+    FIELD_GOT,
+    FIELD_SENT,
+    FIELD_TIMER,
+    FIELD_OUTCOME,
+    FIELDS
 };
 
 struct identify_walk {
@@ -28,9 +35,9 @@ static void to_fields(const struct identify *state, uint64_t fields[FIELDS])
 {
     fields[FIELD_RECEIVER] = state->receiver;
     fields[FIELD_COUNT] = state->count;
-    fields[2] = state->is_identify;
-    fields[3] = state->got;
-    fields[4] = state->sent;
+    fields[FIELD_TYPED] = state->is_identify;
+    fields[FIELD_GOT] = state->got;
+    fields[FIELD_SENT] = state->sent;
     fields[FIELD_TIMER] = state->timer;
     fields[FIELD_OUTCOME] = state->outcome;
 }
@@ -40,9 +47,9 @@ static struct identify from_fields(const uint64_t fields[FIELDS])
     return (struct identify){
         .receiver = fields[FIELD_RECEIVER],
         .count = fields[FIELD_COUNT],
-        .is_identify = fields[2] != 0,
-        .got = fields[3] != 0,
-        .sent = fields[4] != 0,
+        .is_identify = fields[FIELD_TYPED],
+        .got = fields[FIELD_GOT],
+        .sent = fields[FIELD_SENT],
         .timer = fields[FIELD_TIMER],
         .outcome = fields[FIELD_OUTCOME]
     };
@@ -125,11 +132,11 @@ static size_t add_valid_ends(struct identify states[MOST_STATES], size_t count, 
     return count;
 }
 
-static void set_flags(struct identify *state, unsigned flags)
+static void set_flags(struct identify *state, uint64_t flags)
 {
-    state->is_identify = (flags & 1U) != 0;
-    state->got = (flags & 2U) != 0;
-    state->sent = (flags & 4U) != 0;
+    state->is_identify = flags % 2;
+    state->got = flags / 2 % 2;
+    state->sent = flags / 4;
 }
 
 static size_t list_valid_states(struct identify states[MOST_STATES])
@@ -138,7 +145,7 @@ static size_t list_valid_states(struct identify states[MOST_STATES])
 
     for (uint64_t receiver = 0; receiver <= RECEIVER_COMPLETED; receiver++) {
         for (uint64_t dwords = 0; dwords <= IDENTIFY_FRAME_DWORDS; dwords++) {
-            for (unsigned flags = 0; flags < 8; flags++) {
+            for (uint64_t flags = 0; flags < 8; flags++) {
                 struct identify state = {.receiver = receiver, .count = dwords};
 
                 set_flags(&state, flags);
@@ -180,7 +187,7 @@ static void judge_records(struct case_file *file)
 
     for (uint64_t receiver = 0; receiver <= RECEIVER_COMPLETED + 1; receiver++) {
         for (size_t i = 0; i < sizeof counts / sizeof counts[0]; i++) {
-            for (unsigned flags = 0; flags < 8; flags++) {
+            for (uint64_t flags = 0; flags < 8; flags++) {
                 struct identify state = {.receiver = receiver, .count = counts[i]};
 
                 set_flags(&state, flags);
@@ -207,12 +214,49 @@ static void judge_raised_field(struct case_file *file, struct identify state, si
 
 static void judge_raised_fields(struct case_file *file, const struct identify *states, size_t count)
 {
-    static const size_t numbers[] = {FIELD_RECEIVER, FIELD_COUNT, FIELD_TIMER, FIELD_OUTCOME};
     static const uint64_t raises[] = {256, DWORD_PAST, UINT64_MAX - 1000};
 
     for (size_t i = 0; i < count; i += 3) {
-        for (size_t k = 0; k < sizeof numbers / sizeof numbers[0]; k++) {
-            judge_raised_field(file, states[i], numbers[k], raises[(i + k) % 3]);
+        for (size_t field = FIELD_RECEIVER; field < FIELDS; field++) {
+            judge_raised_field(file, states[i], field, raises[(i / 3 + field) % 3]);
+        }
+    }
+}
+
+/* No event is taken, not even one that would set the flag anew; the unknown one comes second to the state. */
+static void refuse_flag(struct case_file *file, const struct identify *state, size_t flag, uint64_t value)
+{
+    uint64_t fields[FIELDS];
+    struct identify_walk walk;
+
+    to_fields(state, fields);
+    fields[flag] = value;
+    walk_start(&walk, from_fields(fields));
+    for (uint64_t event = IDENTIFY_SOAF; event <= IDENTIFY_ENABLE + 1; event++) {
+        walk_add(&walk, event, event == IDENTIFY_EOAF ? 1 : 0);
+    }
+    walk_write(file, &walk);
+}
+
+/* Counts and timers between their ends make no other case of a flag. */
+static bool is_at_ends(const struct identify *state)
+{
+    bool count_at_end = state->count <= 1 || state->count == IDENTIFY_FRAME_DWORDS;
+    bool timer_at_end = state->timer == 0 || state->timer == IDENTIFY_TIMER_START;
+
+    return count_at_end && timer_at_end;
+}
+
+/* Numbers that are no flags, in every flag of every kind of state. */
+static void refuse_flags(struct case_file *file, const struct identify *states, size_t count)
+{
+    for (size_t i = 0; i < count; i++) {
+        if (!is_at_ends(&states[i])) {
+            continue;
+        }
+        for (size_t flag = FIELD_TYPED; flag <= FIELD_SENT; flag++) {
+            refuse_flag(file, &states[i], flag, 2);
+            refuse_flag(file, &states[i], flag, UINT64_MAX);
         }
     }
 }
@@ -349,6 +393,7 @@ void make_identify_cases(struct case_file *file)
     probe_valid_states(file, states, count);
     judge_records(file);
     judge_raised_fields(file, states, count);
+    refuse_flags(file, states, count);
     for (size_t i = 0; i < identify_script_count; i++) {
         play_script(file, identify_scripts[i]);
     }

@@ -48,10 +48,10 @@ static void refuse_every_event(struct case_file *file, struct phy phy)
 static void sweep_valid_timers(struct case_file *file, struct phy phy)
 {
     for (size_t i = 0; i < TIMERS; i++) {
-        for (unsigned flags = 0; flags < 4; flags++) {
+        for (uint64_t flags = 0; flags < 4; flags++) {
             phy.timer = timers[i];
-            phy.accept = (flags & 1U) != 0;
-            phy.far_closed = (flags & 2U) != 0;
+            phy.accept = flags % 2;
+            phy.far_closed = flags / 2;
             if (phy_is_valid(&phy)) {
                 step_every_event(file, phy);
             }
@@ -73,9 +73,9 @@ static void sweep_valid(struct case_file *file)
 /* With either flag set one event is enough, another one for each record. */
 static void sweep_invalid_flags(struct case_file *file, struct phy phy, uint64_t code)
 {
-    for (unsigned flags = 1; flags < 4; flags++) {
-        phy.accept = (flags & 1U) != 0;
-        phy.far_closed = (flags & 2U) != 0;
+    for (uint64_t flags = 1; flags < 4; flags++) {
+        phy.accept = flags % 2;
+        phy.far_closed = flags / 2;
         if (!phy_is_valid(&phy)) {
             phy_single_step(file, phy, sample_event((code + flags) % (MOST_CODE + 1)));
         }
@@ -120,7 +120,7 @@ static void compare_addresses(struct case_file *file)
         phy.request.destination = pairs[i][0];
         phy.source = pairs[i][1];
         phy_single_step(file, phy, plain_event(EVENT_TICK));
-        phy.accept = true;
+        phy.accept = 1;
         phy_single_step(file, phy, plain_event(EVENT_TICK));
     }
 }
@@ -215,9 +215,23 @@ static void judge_raised_values(struct case_file *file, const struct phy *phy)
     uint64_t fields[PHY_FIELDS];
 
     phy_to_fields(phy, fields);
-    for (enum phy_field field = FIELD_LINK; field < FIELD_FAR_CLOSED; field++) {
+    for (enum phy_field field = FIELD_LINK; field < PHY_FIELDS; field++) {
         judge_field(file, phy, field, fields[field] + PAST_8_BITS);
         judge_field(file, phy, field, fields[field] + PAST_32_BITS);
+    }
+}
+
+/* Numbers that are no flags, one of them or both; no event is taken, not even one that would set the flag anew. */
+static void refuse_flags(struct case_file *file, struct phy phy)
+{
+    static const uint64_t flags[][2] = {
+        {2, 0}, {UINT64_MAX, 1}, {0, 2}, {1, UINT64_MAX}, {2, UINT64_MAX}, {UINT64_MAX, 2}
+    };
+
+    for (size_t i = 0; i < sizeof flags / sizeof flags[0]; i++) {
+        phy.far_closed = flags[i][0];
+        phy.accept = flags[i][1];
+        refuse_every_event(file, phy);
     }
 }
 
@@ -230,6 +244,7 @@ static void judge_records(struct case_file *file)
             if (phy_is_valid(&phy)) {
                 judge_listed_values(file, &phy);
                 judge_raised_values(file, &phy);
+                refuse_flags(file, phy);
             }
         }
     }

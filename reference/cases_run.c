@@ -63,16 +63,20 @@ static void try_all_small_edges(struct case_file *file)
     static const uint8_t traces[][2] = {
         {EVENT_TICK, EVENT_TICK}, {EVENT_CANCEL_OPEN, 0}, {0, EVENT_TICK}, {EVENT_TX_OPEN, 0xFF}
     };
-    const struct phy bad = sample_record(LINK_IDLE, PORT_CONNECTED, 0);
+    const struct phy fresh = phy_fresh();
+    struct phy starts[] = {fresh, sample_record(LINK_IDLE, PORT_CONNECTED, 0), fresh, fresh};
 
+    starts[2].far_closed = 2;
+    starts[3].accept = UINT64_MAX;
     for (size_t i = 0; i < sizeof traces / sizeof traces[0]; i++) {
         for (size_t length = 0; length <= sizeof traces[i]; length++) {
             struct pieces trace;
 
             pieces_clear(&trace);
             pieces_add(&trace, 1, traces[i], length);
-            try_small_edges(file, phy_fresh(), &trace);
-            try_small_edges(file, bad, &trace);
+            for (size_t k = 0; k < sizeof starts / sizeof starts[0]; k++) {
+                try_small_edges(file, starts[k], &trace);
+            }
         }
     }
 }
@@ -197,7 +201,7 @@ static void start_from_every_pair(struct case_file *file)
             if (phy_is_valid(&phy)) {
                 judge_fields(file, &phy);
                 run_every_code(file, phy);
-                phy.accept = true;
+                phy.accept = 1;
                 run_every_code(file, phy);
             }
         }

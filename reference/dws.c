@@ -22,7 +22,7 @@ static uint64_t report_of(uint64_t from, uint64_t event, uint64_t to)
     return DWS_NO_REPORT;
 }
 
-static struct dws_result dws_refused(unsigned refusal, uint64_t state)
+static struct dws_result dws_refused(uint64_t refusal, uint64_t state)
 {
     return (struct dws_result){.refusal = refusal, .state = state, .report = DWS_NO_REPORT};
 }

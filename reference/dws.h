@@ -33,7 +33,7 @@ enum dws_report {
 };
 
 struct dws_result {
-    unsigned refusal;
+    uint64_t refusal;
     uint64_t state;
     uint64_t report;
 };

@@ -25,20 +25,28 @@ static bool count_fits(const struct identify *state)
 
 static bool type_fits(const struct identify *state)
 {
-    if (!state->is_identify) {
-        return true;
+    if (state->receiver != RECEIVER_RECEIVING || state->count == 0) {
+        return state->is_identify == 0;
     }
-    return state->receiver == RECEIVER_RECEIVING && state->count >= 1;
+    return state->is_identify <= 1;
 }
 
 static bool got_fits(const struct identify *state)
 {
-    return !state->got || state->receiver == RECEIVER_COMPLETED;
+    if (state->receiver != RECEIVER_COMPLETED) {
+        return state->got == 0;
+    }
+    return state->got <= 1;
+}
+
+static bool sent_fits(const struct identify *state)
+{
+    return state->sent <= 1;
 }
 
 static bool timer_fits(const struct identify *state)
 {
-    bool runs = state->sent && !state->got && state->outcome == IDENTIFY_NONE;
+    bool runs = state->sent == 1 && state->got == 0 && state->outcome == IDENTIFY_NONE;
 
     if (!runs) {
         return state->timer == 0;
@@ -53,12 +61,12 @@ static bool outcome_is_known(const struct identify *state)
 
 static bool complete_fits(const struct identify *state)
 {
-    return (state->outcome == IDENTIFY_COMPLETE) == (state->got && state->sent);
+    return (state->outcome == IDENTIFY_COMPLETE) == (state->got == 1 && state->sent == 1);
 }
 
 static bool time_out_fits(const struct identify *state)
 {
-    return state->outcome != IDENTIFY_TIME_OUT || (state->sent && !state->got);
+    return state->outcome != IDENTIFY_TIME_OUT || (state->sent == 1 && state->got == 0);
 }
 
 static bool reset_received_fits(const struct identify *state)
@@ -66,7 +74,7 @@ static bool reset_received_fits(const struct identify *state)
     if (state->outcome != IDENTIFY_RESET_RECEIVED) {
         return true;
     }
-    return !state->got && (state->receiver == RECEIVER_IDLE || state->receiver == RECEIVER_COMPLETED);
+    return state->got == 0 && (state->receiver == RECEIVER_IDLE || state->receiver == RECEIVER_COMPLETED);
 }
 
 bool identify_is_valid(const struct identify *state)
@@ -75,6 +83,7 @@ bool identify_is_valid(const struct identify *state)
         && count_fits(state)
         && type_fits(state)
         && got_fits(state)
+        && sent_fits(state)
         && timer_fits(state)
         && outcome_is_known(state)
         && complete_fits(state)
@@ -99,7 +108,7 @@ static void move_receiver(struct identify *state, uint64_t receiver)
 {
     state->receiver = receiver;
     state->count = 0;
-    state->is_identify = false;
+    state->is_identify = 0;
 }
 
 static void conclude(struct identify_result *result, uint64_t outcome)
@@ -135,7 +144,7 @@ static void take_data_dword(struct identify_result *result, uint64_t dword)
         return;
     }
     if (state->count == 0) {
-        state->is_identify = (dword & FRAME_TYPE_MASK) == 0;
+        state->is_identify = (dword & FRAME_TYPE_MASK) == 0 ? 1 : 0;
     }
     state->count++;
 }
@@ -143,15 +152,15 @@ static void take_data_dword(struct identify_result *result, uint64_t dword)
 static void end_reception(struct identify_result *result, bool crc_good)
 {
     struct identify *state = &result->state;
-    bool whole = state->count == IDENTIFY_FRAME_DWORDS && state->is_identify && crc_good;
+    bool whole = state->count == IDENTIFY_FRAME_DWORDS && state->is_identify == 1 && crc_good;
 
     move_receiver(state, RECEIVER_COMPLETED);
     if (!whole) {
         result->report = IDENTIFY_FAILED;
         return;
     }
-    state->got = true;
-    if (state->sent) {
+    state->got = 1;
+    if (state->sent == 1) {
         conclude(result, IDENTIFY_COMPLETE);
     }
 }
@@ -174,7 +183,7 @@ static void take_hard_reset(struct identify_result *result)
 {
     const struct identify *state = &result->state;
 
-    if (state->receiver == RECEIVER_RECEIVING || state->receiver == RECEIVER_SPOILED || state->got) {
+    if (state->receiver == RECEIVER_RECEIVING || state->receiver == RECEIVER_SPOILED || state->got == 1) {
         return;
     }
     conclude(result, IDENTIFY_RESET_RECEIVED);
@@ -184,11 +193,11 @@ static void take_frame_sent(struct identify_result *result)
 {
     struct identify *state = &result->state;
 
-    if (state->sent) {
+    if (state->sent == 1) {
         return;
     }
-    state->sent = true;
-    if (state->got) {
+    state->sent = 1;
+    if (state->got == 1) {
         conclude(result, IDENTIFY_COMPLETE);
         return;
     }

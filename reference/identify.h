@@ -36,18 +36,19 @@ enum identify_report {
     IDENTIFY_RESET_RECEIVED = 4
 };
 
+/* is_identify, got and sent are flags, 0 or 1; a record with any other number there is no valid one. */
 struct identify {
     uint64_t receiver;
     uint64_t count;
-    bool is_identify;
-    bool got;
-    bool sent;
+    uint64_t is_identify;
+    uint64_t got;
+    uint64_t sent;
     uint64_t timer;
     uint64_t outcome;
 };
 
 struct identify_result {
-    unsigned refusal;
+    uint64_t refusal;
     uint64_t report;
     struct identify state;
 };

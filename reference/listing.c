@@ -7,7 +7,7 @@
 
 static void list_event(FILE *out, size_t place, uint64_t code, const struct phy_result *step)
 {
-    fprintf(out, "%zu %" PRIu64 " %u", place, code, step->refusal);
+    fprintf(out, "%zu %" PRIu64 " %" PRIu64, place, code, step->refusal);
     fprintf(out, " %" PRIu64 " %" PRIu64 " %" PRIu64, step->answer, step->notice, step->sent);
     fprintf(out, " %" PRIu64 " %" PRIu64 "\n", step->phy.link, step->phy.port);
 }
@@ -29,7 +29,7 @@ static void list_events(FILE *out, const uint8_t *trace, size_t length)
         got = event_read(trace, length, place);
     }
     if (got.found == FOUND_FAULT) {
-        fprintf(out, "stop %zu refusal %u\n", place, got.refusal);
+        fprintf(out, "stop %zu refusal %" PRIu64 "\n", place, got.refusal);
     } else {
         fprintf(out, "end %zu events %zu\n", place, count);
     }

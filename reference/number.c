@@ -9,13 +9,13 @@ enum {
     LAST_GROUP = NUMBER_MOST_BYTES - 1
 };
 
-static struct number_read number_fault(unsigned refusal)
+static struct number_read number_fault(uint64_t refusal, size_t place)
 {
-    return (struct number_read){.refusal = refusal, .value = 0, .next = 0};
+    return (struct number_read){.refusal = refusal, .value = 0, .next = place};
 }
 
 /* The tenth byte is judged whole: bit 63 is the only one left, so even its high bit is too much. */
-static unsigned tenth_byte_refusal(uint8_t byte)
+static uint64_t tenth_byte_refusal(uint8_t byte)
 {
     if (byte == 0) {
         return REFUSED_OVERLONG;
@@ -26,7 +26,7 @@ static unsigned tenth_byte_refusal(uint8_t byte)
     return NOT_REFUSED;
 }
 
-static unsigned byte_refusal(uint8_t byte, unsigned group)
+static uint64_t byte_refusal(uint8_t byte, unsigned group)
 {
     if (group == LAST_GROUP) {
         return tenth_byte_refusal(byte);
@@ -40,21 +40,22 @@ static unsigned byte_refusal(uint8_t byte, unsigned group)
 struct number_read number_read(const uint8_t *bytes, size_t length, size_t place)
 {
     uint64_t value = 0;
+    size_t next = place;
 
-    for (unsigned group = 0; place < length; group++) {
-        uint8_t byte = bytes[place];
-        unsigned refusal = byte_refusal(byte, group);
+    for (unsigned group = 0; next < length; group++) {
+        uint8_t byte = bytes[next];
+        uint64_t refusal = byte_refusal(byte, group);
 
         if (refusal != NOT_REFUSED) {
-            return number_fault(refusal);
+            return number_fault(refusal, place);
         }
-        place++;
+        next++;
         value |= (uint64_t)(byte & GROUP_MASK) << (GROUP_BITS * group);
         if ((byte & ANOTHER_FOLLOWS) == 0) {
-            return (struct number_read){.refusal = NOT_REFUSED, .value = value, .next = place};
+            return (struct number_read){.refusal = NOT_REFUSED, .value = value, .next = next};
         }
     }
-    return number_fault(REFUSED_CUT);
+    return number_fault(REFUSED_CUT, place);
 }
 
 size_t number_length(uint64_t value)

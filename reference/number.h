@@ -7,15 +7,15 @@
 /* 64 bits in groups of seven: nine full groups and one bit. */
 enum { NUMBER_MOST_BYTES = 10 };
 
-/* On a fault value and next are 0. */
+/* On a fault the value is 0, and next is the place given. */
 struct number_read {
-    unsigned refusal;
+    uint64_t refusal;
     uint64_t value;
     size_t next;
 };
 
 struct number_written {
-    unsigned refusal;
+    uint64_t refusal;
     size_t length;
 };
 

@@ -44,7 +44,7 @@ static const uint64_t answer_to_reject[] = {
 
 struct phy phy_fresh(void)
 {
-    return (struct phy){.link = LINK_IDLE, .port = PORT_IDLE, .accept = false};
+    return (struct phy){.link = LINK_IDLE, .port = PORT_IDLE, .accept = 0};
 }
 
 /* ---- Events and their arguments ---- */
@@ -211,7 +211,15 @@ static bool connection_fits(const struct phy *phy)
 
 static bool far_closed_fits(const struct phy *phy)
 {
-    return !phy->far_closed || phy->link == LINK_CONNECTED;
+    if (phy->link != LINK_CONNECTED) {
+        return phy->far_closed == 0;
+    }
+    return phy->far_closed <= 1;
+}
+
+static bool accept_fits(const struct phy *phy)
+{
+    return phy->accept <= 1;
 }
 
 bool phy_is_valid(const struct phy *phy)
@@ -222,7 +230,8 @@ bool phy_is_valid(const struct phy *phy)
         && reason_fits(phy)
         && inbound_fits(phy)
         && connection_fits(phy)
-        && far_closed_fits(phy);
+        && far_closed_fits(phy)
+        && accept_fits(phy);
 }
 
 /* ---- Moves shared by the rows ---- */
@@ -234,7 +243,7 @@ static void enter_link(struct phy *phy, uint64_t link)
     phy->timer = link_is_timed(link) ? PHY_TIMER_START : 0;
     phy->source = 0;
     phy->inbound_protocol = 0;
-    phy->far_closed = false;
+    phy->far_closed = 0;
 }
 
 static void give_answer(struct phy_result *result, uint64_t answer)
@@ -246,7 +255,7 @@ static void give_answer(struct phy_result *result, uint64_t answer)
 /* For the rows that give their own answer or notice: the shared ones stay unsaid. */
 static void go_idle(struct phy *phy)
 {
-    bool accept = phy->accept;
+    uint64_t accept = phy->accept;
 
     *phy = phy_fresh();
     phy->accept = accept;
@@ -319,7 +328,7 @@ static void on_cancel_open(struct phy_result *result)
 static void on_close_connection(struct phy_result *result)
 {
     result->sent = SENT_CLOSE;
-    if (!result->phy.far_closed) {
+    if (result->phy.far_closed == 0) {
         enter_link(&result->phy, LINK_DISCONNECT_WAIT);
         return;
     }
@@ -398,7 +407,7 @@ static void on_break(struct phy_result *result)
 static void on_close(struct phy_result *result)
 {
     if (result->phy.link == LINK_CONNECTED) {
-        result->phy.far_closed = true;
+        result->phy.far_closed = 1;
         return;
     }
     if (result->phy.link == LINK_DISCONNECT_WAIT) {
@@ -440,7 +449,7 @@ static void settle_inbound_open(struct phy_result *result)
 {
     const struct phy *phy = &result->phy;
 
-    if (!phy->accept) {
+    if (phy->accept == 0) {
         result->sent = SENT_OPEN_REJECT;
         enter_idle(result);
         return;
@@ -487,7 +496,7 @@ static void on_reset(struct phy_result *result)
 
 /* ---- The step ---- */
 
-static unsigned smp_break_refusal(const struct phy *phy)
+static uint64_t smp_break_refusal(const struct phy *phy)
 {
     if (phy->link != LINK_CONNECTED) {
         return REFUSED_NOT_CONNECTED;
@@ -495,7 +504,7 @@ static unsigned smp_break_refusal(const struct phy *phy)
     return phy->connection_protocol == PROTOCOL_SMP ? NOT_REFUSED : REFUSED_WRONG_PROTOCOL;
 }
 
-static unsigned refusal_of(const struct phy *phy, const struct phy_event *event)
+static uint64_t refusal_of(const struct phy *phy, const struct phy_event *event)
 {
     if (!phy_is_valid(phy)) {
         return REFUSED_BAD_STATE;
@@ -534,10 +543,10 @@ static void take_local_event(struct phy_result *result, const struct phy_event *
         on_smp_transmit_break(result);
         return;
     case EVENT_ACCEPT_OPENS:
-        result->phy.accept = true;
+        result->phy.accept = 1;
         return;
     default:
-        result->phy.accept = false;
+        result->phy.accept = 0;
         return;
     }
 }

@@ -106,6 +106,7 @@ struct phy_request {
     uint64_t wait;
 };
 
+/* far_closed and accept are flags, 0 or 1; a record with any other number there is no valid one. */
 struct phy {
     uint64_t link;
     uint64_t port;
@@ -115,8 +116,8 @@ struct phy {
     uint64_t source;
     uint64_t inbound_protocol;
     uint64_t connection_protocol;
-    bool far_closed;
-    bool accept;
+    uint64_t far_closed;
+    uint64_t accept;
 };
 
 /* Arguments stand in the paper's order; those the event lacks are zero. */
@@ -126,7 +127,7 @@ struct phy_event {
 };
 
 struct phy_result {
-    unsigned refusal;
+    uint64_t refusal;
     uint64_t answer;
     uint64_t notice;
     uint64_t sent;

@@ -14,8 +14,8 @@ const struct field_values phy_field_values[PHY_FIELDS] = {
     [FIELD_SOURCE] = {3, {0, 1, UINT64_MAX}},
     [FIELD_INBOUND] = {5, {0, 1, 2, 3, UINT64_MAX}},
     [FIELD_CONNECTION] = {5, {0, 1, 2, 3, UINT64_MAX}},
-    [FIELD_FAR_CLOSED] = {2, {0, 1}},
-    [FIELD_ACCEPT] = {2, {0, 1}}
+    [FIELD_FAR_CLOSED] = {4, {0, 1, 2, UINT64_MAX}},
+    [FIELD_ACCEPT] = {4, {0, 1, 2, UINT64_MAX}}
 };
 
 void request_to_arguments(const struct phy_request *request, uint64_t out[PHY_ARGUMENTS])
@@ -60,7 +60,7 @@ struct phy phy_from_fields(const uint64_t fields[PHY_FIELDS])
         .source = fields[FIELD_SOURCE],
         .inbound_protocol = fields[FIELD_INBOUND],
         .connection_protocol = fields[FIELD_CONNECTION],
-        .far_closed = fields[FIELD_FAR_CLOSED] != 0,
-        .accept = fields[FIELD_ACCEPT] != 0
+        .far_closed = fields[FIELD_FAR_CLOSED],
+        .accept = fields[FIELD_ACCEPT]
     };
 }

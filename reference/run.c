@@ -3,7 +3,7 @@
 #include "refusals.h"
 #include "trace.h"
 
-static unsigned run_refusal(const struct phy *phy, uint64_t budget, size_t room)
+static uint64_t run_refusal(const struct phy *phy, uint64_t budget, size_t room)
 {
     if (!phy_is_valid(phy)) {
         return REFUSED_BAD_STATE;
@@ -16,7 +16,7 @@ static uint8_t byte_for(const struct phy_result *step)
     return (uint8_t)(step->refusal != NOT_REFUSED ? step->refusal : step->answer);
 }
 
-static void stop_at_fault(struct run_result *result, unsigned fault, size_t place)
+static void stop_at_fault(struct run_result *result, uint64_t fault, size_t place)
 {
     result->stop = STOPPED_AT_FAULT;
     result->fault = fault;

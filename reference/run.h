@@ -11,10 +11,10 @@ enum run_stop {
 
 /* Fault and place are 0 unless the run stopped at a fault; a refused run has zeros but for the phy. */
 struct run_result {
-    unsigned refusal;
+    uint64_t refusal;
     size_t count;
-    enum run_stop stop;
-    unsigned fault;
+    uint64_t stop;
+    uint64_t fault;
     size_t place;
     struct phy phy;
 };

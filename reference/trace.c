@@ -5,12 +5,12 @@
 
 /* ---- Reading ---- */
 
-static struct event_read event_fault(unsigned refusal, size_t place)
+static struct event_read event_fault(uint64_t refusal, size_t place)
 {
     return (struct event_read){.found = FOUND_FAULT, .refusal = refusal, .next = place};
 }
 
-static unsigned read_code(struct event_read *got, const uint8_t *bytes, size_t length)
+static uint64_t read_code(struct event_read *got, const uint8_t *bytes, size_t length)
 {
     struct number_read number = number_read(bytes, length, got->next);
 
@@ -25,7 +25,7 @@ static unsigned read_code(struct event_read *got, const uint8_t *bytes, size_t l
     return NOT_REFUSED;
 }
 
-static unsigned read_argument(struct event_read *got, size_t which, const uint8_t *bytes, size_t length)
+static uint64_t read_argument(struct event_read *got, size_t which, const uint8_t *bytes, size_t length)
 {
     struct number_read number = number_read(bytes, length, got->next);
 
@@ -49,7 +49,7 @@ struct event_read event_read(const uint8_t *bytes, size_t length, size_t place)
         return got;
     }
 
-    unsigned refusal = read_code(&got, bytes, length);
+    uint64_t refusal = read_code(&got, bytes, length);
 
     if (refusal != NOT_REFUSED) {
         return event_fault(refusal, place);
@@ -75,7 +75,7 @@ static size_t event_length(const struct phy_event *event)
     return length;
 }
 
-static struct event_written event_refused(unsigned refusal)
+static struct event_written event_refused(uint64_t refusal)
 {
     return (struct event_written){.refusal = refusal, .length = 0};
 }

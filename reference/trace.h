@@ -11,14 +11,14 @@ enum event_found {
 
 /* At the end and on a fault the event is zero and next is the place given. */
 struct event_read {
-    enum event_found found;
-    unsigned refusal;
+    uint64_t found;
+    uint64_t refusal;
     size_t next;
     struct phy_event event;
 };
 
 struct event_written {
-    unsigned refusal;
+    uint64_t refusal;
     size_t length;
 };
 

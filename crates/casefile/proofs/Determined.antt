@@ -1,7 +1,5 @@
 -- Each contract equates the result, and the bytes left, with a definition of what was given, so two that it allows coincide.
-use mathlib.Core.Bool.{Bool, true, false}
 use mathlib.Core.Path.{_≡_, refl, sym, _∙_}
-use Rattle.casefile.specs.Records.{flag, flagOf}
 use Rattle.casefile.specs.Laws.{TakeDetermined, BytesDetermined, ManyDetermined, PhyDetermined, PhyNumbersDetermined, EventDetermined, PhyBack}
 
 -- two that equal a third
@@ -26,23 +24,5 @@ phy-numbers-determined p r q a b = both a b
 pub event-determined : EventDetermined
 event-determined f r q a b = both a b
 
--- a flag is made again of its number
-flag-back : (b : Bool) → flagOf (flag b) ≡ b
-flag-back true = refl
-flag-back false = refl
-
 pub phy-back : PhyBack
-phy-back p =
-    λ i.
-    record {
-      link = p .link;
-      port = p .port;
-      timer = p .timer;
-      request = p .request;
-      reason = p .reason;
-      source = p .source;
-      inbound = p .inbound;
-      connection = p .connection;
-      closed = flag-back (p .closed) i;
-      settings = record { accept = flag-back (p .settings .accept) i };
-    }
+phy-back p = refl

@@ -10,7 +10,7 @@ use lib.Dec.{eqb}
 use lib.ListN.{length, take, drop-of-length-le}
 use lib.Seq.{slice, length-slice, take-take, take-all, take-length, length-take-le}
 use Rattle.table.proofs.Laws.{by-test, by-order}
-use Rattle.casefile.specs.Window.{endAhead, countAhead, noneAhead, enoughAhead}
+use Rattle.casefile.specs.Window.{endAhead, noneAhead, enoughAhead}
 use Rattle.casefile.specs.Contracts.{MovesToFront, Stays, ReadsOn, Slides}
 use Rattle.casefile.specs.Laws.{AheadKept, SlideDetermined}
 use Rattle.casefile.specs.declared.Ahead.{Ahead}

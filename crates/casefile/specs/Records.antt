@@ -1,21 +1,10 @@
 -- The records that a case file holds as numbers, in the order of their fields.
 use Prim.Native.Nat.{ℕ}
-use mathlib.Core.Bool.{Bool, true, false}
 use mathlib.Core.List.{List, [], _∷_}
-use lib.Dec.{eqb}
 use lib.ListN.{getD}
 use Rattle.event.specs.declared.Event.{Event}
 use Rattle.event.specs.declared.Open.{Open}
 use Rattle.phy.specs.declared.Phy.{Phy}
-
--- a flag as a number
-abbrev pub flag : Bool → ℕ
-flag true = 1
-flag false = 0
-
--- a number as a flag
-abbrev pub flagOf : ℕ → Bool
-flagOf n = eqb n 1
 
 -- the numbers of a phy
 abbrev pub phyNumbers : Phy → List ℕ
@@ -33,8 +22,8 @@ phyNumbers p =
     ∷ p .source
     ∷ p .inbound
     ∷ p .connection
-    ∷ flag (p .closed)
-    ∷ flag (p .settings .accept)
+    ∷ p .closed
+    ∷ p .settings .accept
     ∷ []
 
 -- a phy's request, of its numbers
@@ -53,8 +42,8 @@ phyOf f =
       source = getD f 10 0;
       inbound = getD f 11 0;
       connection = getD f 12 0;
-      closed = flagOf (getD f 13 0);
-      settings = record { accept = flagOf (getD f 14 0) };
+      closed = getD f 13 0;
+      settings = record { accept = getD f 14 0 };
     }
 
 -- the event of numbers: its code and six arguments

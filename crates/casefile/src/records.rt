@@ -7,7 +7,6 @@ use event::Open;
 use phy::Phy;
 use phy::Settings;
 
-// A flag is set where its number is 1.
 pub fn phy_of(f: [u64; PHY_NUMBERS]) -> Phy
     ensures { λ r. ⌜ MakesPhy f r ⌝ }
 {
@@ -19,7 +18,7 @@ pub fn phy_of(f: [u64; PHY_NUMBERS]) -> Phy
         blocked: f[7],
         wait: f[8],
     };
-    let settings = Settings { accept: f[14] == 1 };
+    let settings = Settings { accept: f[14] };
     Phy {
         link: f[0],
         port: f[1],
@@ -29,7 +28,7 @@ pub fn phy_of(f: [u64; PHY_NUMBERS]) -> Phy
         source: f[10],
         inbound: f[11],
         connection: f[12],
-        closed: f[13] == 1,
+        closed: f[13],
         settings,
     }
 }
@@ -54,8 +53,8 @@ pub fn phy_numbers(p: Phy) -> [u64; PHY_NUMBERS]
         p.source,
         p.inbound,
         p.connection,
-        p.closed as u64,
-        settings.accept as u64,
+        p.closed,
+        settings.accept,
     ]
 }
 

@@ -7,21 +7,21 @@ use identify::Identification;
 use identify::Stepped;
 use output::put_line;
 
-// The numbers of an identification, in the case file and in a line.
+// The numbers of an identification, in the case file and in a line: in the paper's order, which is not
+// the record's.
 const FIELDS: usize = 7;
 
 const LINE: usize = 9;
 
-// A flag is 0 or 1 in the case file.
 fn identification(f: [u64; FIELDS]) -> Identification {
     Identification {
         receiver: f[0],
         count: f[1],
         timer: f[5],
         outcome: f[6],
-        typed: f[2] == 1,
-        got: f[3] == 1,
-        sent: f[4] == 1,
+        typed: f[2],
+        got: f[3],
+        sent: f[4],
     }
 }
 
@@ -29,13 +29,13 @@ fn identification(f: [u64; FIELDS]) -> Identification {
 fn line(r: Stepped) -> [u64; LINE] {
     let i = r.next;
     [
-        r.refusal as u64,
-        r.report as u64,
+        r.refusal,
+        r.report,
         i.receiver,
         i.count,
-        i.typed as u64,
-        i.got as u64,
-        i.sent as u64,
+        i.typed,
+        i.got,
+        i.sent,
         i.timer,
         i.outcome,
     ]

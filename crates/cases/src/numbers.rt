@@ -11,61 +11,14 @@ use output::put_numbers;
 // The buffers of the cases are no longer than this.
 const MOST_BUFFER: usize = 64;
 
-// An answer as the paper numbers it: the refusal or 0, and two values that a refusal leaves zero.
-struct Said {
-    refusal: u8,
-    value: u64,
-    next: usize,
-}
-
-fn said_read(read: number::NumberRead) -> Said {
-    match read {
-        number::NumberRead::Value { value, next } => Said {
-            refusal: 0,
-            value,
-            next,
-        },
-        number::NumberRead::Cut => Said {
-            refusal: table::CUT,
-            value: 0,
-            next: 0,
-        },
-        number::NumberRead::Overlong => Said {
-            refusal: table::OVERLONG,
-            value: 0,
-            next: 0,
-        },
-        number::NumberRead::TooLarge => Said {
-            refusal: table::TOO_LARGE,
-            value: 0,
-            next: 0,
-        },
-    }
-}
-
-fn said_written(written: number::NumberWritten) -> Said {
-    match written {
-        number::NumberWritten::Length(next) => Said {
-            refusal: 0,
-            value: 0,
-            next,
-        },
-        number::NumberWritten::NoRoom => Said {
-            refusal: table::NO_ROOM,
-            value: 0,
-            next: 0,
-        },
-    }
-}
-
 // place, bytes: refusal, value, place after it
 pub fn read_case(s: &[u8], kind: u64, place: usize, out: &mut [u8], n: usize) -> Place {
     let at = take(s, place);
     let part = take_bytes(s, at.next);
     let from = part.from;
     let to = part.to;
-    let r = said_read(number::read_number(&s[from..to], at.value as usize));
-    let said = [r.refusal as u64, r.value, r.next as u64];
+    let r = replies::read_number(&s[from..to], at.value as usize);
+    let said = [r.refusal, r.value, r.next as u64];
     Place {
         next: to,
         n: put_line(out, n, kind, &said),
@@ -80,8 +33,8 @@ fn write_line(
     out: &mut [u8],
     n: usize,
 ) -> usize {
-    let r = said_written(number::write_number(value, buffer, place));
-    let said = [r.refusal as u64, r.next as u64];
+    let r = replies::write_number(value, buffer, place);
+    let said = [r.refusal, r.length as u64];
     let head = put_numbers(out, n, kind, &said);
     let end = put_bytes(out, head, buffer);
     end_line(out, end)

@@ -18,10 +18,10 @@ use phy::Stepped;
 fn put_stepped(out: &mut [u8], n: usize, kind: u64, r: Stepped) -> usize {
     let o = r.answered;
     let head = [
-        r.refusal as u64,
+        r.refusal,
         r.answer,
-        r.notice as u64,
-        r.sent as u64,
+        r.notice,
+        r.sent,
         o.destination,
         o.protocol,
         o.rate,

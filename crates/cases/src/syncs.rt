@@ -17,7 +17,7 @@ pub fn walk_case(s: &[u8], kind: u64, place: usize, out: &mut [u8], n: usize) ->
         next = event.next;
         let r = dws::step(state, event.value);
         state = r.state;
-        let said = [r.refusal as u64, r.state, r.report as u64];
+        let said = [r.refusal, r.state, r.report];
         end = put_line(out, end, kind, &said);
     }
     Place { next, n: end }

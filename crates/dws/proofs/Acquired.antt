@@ -29,17 +29,8 @@ Way events s = Leads s (run s events) (acquisitions s events) (primitives events
 by-data : (s r a p : ℕ) → Leads s r a p → Leads s r (0 + a) (0 + p)
 by-data s r a p l = rw (zero-add a, zero-add p) l
 
-by-first : (r a p : ℕ) → Leads 1 r a p → Leads 0 r (0 + a) (1 + p)
-by-first r a p l = omega arith
-
-by-second : (r a p : ℕ) → Leads 2 r a p → Leads 1 r (0 + a) (1 + p)
-by-second r a p l = omega arith
-
-by-third : (r a p : ℕ) → Leads 3 r a p → Leads 2 r (1 + a) (1 + p)
-by-third r a p l = omega arith
-
-by-further : (r a p : ℕ) → Leads 3 r a p → Leads 3 r (0 + a) (1 + p)
-by-further r a p l = omega arith
+by-primitive : (r a p : ℕ) → Each (λ s. Leads (min 3 (s + 1)) r a p → Leads s r (pick (eqb s 2) 1 0 + a) (1 + p)) 4
+by-primitive r a p = omega arith
 
 none : Each (Way []) 4
 none = omega arith
@@ -50,7 +41,7 @@ one-data events w = ((((tt, by-data 0 _ _ _ (w .0 .0 .0 .1)), by-data 1 _ _ _ (w
 
 one-primitive : (events : List ℕ) → Each (Way events) 4 → Each (Way (primitive ∷ events)) 4
 unfolding stepOf nextState afterValid afterPrimitive reportOf
-one-primitive events w = ((((tt, by-first _ _ _ (w .0 .0 .1)), by-second _ _ _ (w .0 .1)), by-third _ _ _ (w .1)), by-further _ _ _ (w .1))
+one-primitive events w = ((((tt, by-primitive _ _ _ .0 .0 .0 .1 (w .0 .0 .1)), by-primitive _ _ _ .0 .0 .1 (w .0 .1)), by-primitive _ _ _ .0 .1 (w .1)), by-primitive _ _ _ .1 (w .1))
 
 ways : (events : List ℕ) → AllValid events → Each (Way events) 4
 ways [] v = none
@@ -75,7 +66,7 @@ held-known : (s event : ℕ) → Synchronized s → event ≤ restart → Held s
 unfolding stepOf nextState afterInvalid afterValid afterPrimitive reportOf
 held-known s event h k =
     each (Held s) 4
-    (synchronized (λ n. Each (Held n) 4) (omega arith) (omega arith) (omega arith) (omega arith) (omega arith) (omega arith) (omega arith) s h)
+    (synchronized (λ n. Each (Held n) 4) (((((((tt, omega arith), omega arith), omega arith), omega arith), omega arith), omega arith), omega arith) s h)
     event (omega arith)
 
 held : (s event : ℕ) → Synchronized s → Held s event

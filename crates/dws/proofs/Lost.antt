@@ -1,29 +1,26 @@
 -- Lost dwords are counted and cleared as stated: by computing at each synchronized state.
-use Prim.Native.Nat.{ℕ, zero, suc, _-_, _≤_, _<_}
+use Prim.Native.Nat.{ℕ, zero, suc, _+_, _-_, _≤_, _<_}
 use mathlib.Core.List.{List, [], _∷_}
 use mathlib.Core.Logic.{⊎-elim}
-use mathlib.Core.Path.{_≡_, refl, sym, ap, _∙_}
+use mathlib.Core.Path.{_≡_, refl, sym, ap, _∙_, subst}
 use native.Mathlib.Omega.{arith}
 use lib.ListN.{length}
-use Rattle.table.proofs.Laws.{each}
+use Rattle.table.proofs.Laws.{Each, each}
 use Rattle.dws.specs.Names.{syncAcquired, lost3, dataDword, primitive}
 use Rattle.dws.specs.Step.{stepOf, nextState, afterInvalid, afterValid, afterPrimitive, reportOf}
 use Rattle.dws.specs.Laws.{lostCount, Synchronized, run, Valid, AllValid, OneMore, InvalidAdds, Loses, FourthLoses, TwoValidClearOne, SixFromLost3}
 
 -- a statement at each synchronized state
-pub synchronized : (P : ℕ → Type 0) → P 3 → P 4 → P 5 → P 6 → P 7 → P 8 → P 9 → (s : ℕ) → Synchronized s → P s
-synchronized P p3 p4 p5 p6 p7 p8 p9 s h =
-    each (λ n. 3 ≤ n → P n) 10
-    ((((((((((tt, λ l. absurd (omega arith)), λ l. absurd (omega arith)), λ l. absurd (omega arith)), λ _. p3), λ _. p4), λ _. p5), λ _. p6), λ _. p7), λ _. p8), λ _. p9)
-    s (omega (arith, h .most)) (h .least)
+pub synchronized : (P : ℕ → Type 0) → Each (λ n. P (n + syncAcquired)) 7 → (s : ℕ) → Synchronized s → P s
+synchronized P e s h = subst P (omega arith) (each (λ n. P (n + syncAcquired)) 7 e (s - syncAcquired) (omega arith))
 
 pub invalid-adds : InvalidAdds
 unfolding stepOf nextState afterInvalid reportOf
-invalid-adds s h = synchronized (λ n. lostCount n < 3 → OneMore n) (omega arith) (omega arith) (omega arith) (omega arith) (omega arith) (omega arith) (omega arith) s h
+invalid-adds s h = synchronized (λ n. lostCount n < 3 → OneMore n) (omega arith) s h
 
 pub fourth-loses : FourthLoses
 unfolding stepOf nextState afterInvalid reportOf
-fourth-loses s h = synchronized (λ n. lostCount n ≡ 3 → Loses n) (omega arith) (omega arith) (omega arith) (omega arith) (omega arith) (omega arith) (omega arith) s h
+fourth-loses s h = synchronized (λ n. lostCount n ≡ 3 → Loses n) (omega arith) s h
 
 -- a valid dword of either kind moves a synchronized state alike, and keeps it synchronized
 pub record Alike (s : ℕ) : Type 0 where
@@ -34,7 +31,7 @@ pub record Alike (s : ℕ) : Type 0 where
 
 pub alike : (s : ℕ) → Synchronized s → Alike s
 unfolding stepOf nextState afterPrimitive afterValid
-alike s h = synchronized Alike (omega arith) (omega arith) (omega arith) (omega arith) (omega arith) (omega arith) (omega arith) s h
+alike s h = synchronized Alike (omega arith) s h
 
 pub valid-moves : (s e : ℕ) → Synchronized s → Valid e → stepOf s e .state ≡ afterValid s
 valid-moves s e h v =

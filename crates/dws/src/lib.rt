@@ -32,17 +32,18 @@ const PRIMITIVE: u64 = 2;
 
 const RESTART: u64 = 3;
 
-const NO_REPORT: u8 = 0;
+const NO_REPORT: u64 = 0;
 
-const ACQUIRED: u8 = 1;
+const ACQUIRED: u64 = 1;
 
-const LOST: u8 = 2;
+const LOST: u64 = 2;
 
 // What a step gives: the state, the report, and the number of a refusal or 0.
+#[repr(C)]
 pub struct Stepped {
     pub state: u64,
-    pub report: u8,
-    pub refusal: u8,
+    pub report: u64,
+    pub refusal: u64,
 }
 
 pub fn fresh() -> u64
@@ -52,7 +53,7 @@ pub fn fresh() -> u64
 }
 
 // A restart enters the first state too, and reports nothing.
-fn report_of(state: u64, event: u64, next: u64) -> u8
+fn report_of(state: u64, event: u64, next: u64) -> u64
     ensures { λ r. ⌜ r ≡ reportOf state event next ⌝ }
 {
     if (state == VALID_2) & (next == SYNC_ACQUIRED) {

@@ -56,6 +56,7 @@ pub const MOST_REJECT: u64 = 7;
 pub const MOST_ADDRESS: u64 = 18446744073709551615;
 
 // The six arguments of a Tx Open: a request while it waits, and what its answer carries.
+#[repr(C)]
 pub struct Open {
     pub destination: u64,
     pub protocol: u64,
@@ -66,6 +67,7 @@ pub struct Open {
 }
 
 // A code and six arguments in the paper's order; those that an event lacks are zero.
+#[repr(C)]
 pub struct Event {
     pub code: u64,
     pub first: u64,

@@ -1,7 +1,7 @@
 -- Small facts on tests and equivalences that every law here goes by.
-use mathlib.Core.Bool.{Bool, true, false, _||_, false≢true}
+use mathlib.Core.Bool.{Bool, true, false, false≢true}
 use mathlib.Core.Logic.{_↔_}
-use mathlib.Core.Path.{_≡_, refl, sym, _∙_}
+use mathlib.Core.Path.{_≡_, sym, _∙_}
 
 -- a test has one value
 pub clash : {b : Bool} → b ≡ true → b ≡ false → ⊥
@@ -14,8 +14,3 @@ neither a b = (λ x. absurd (a x), λ y. absurd (b y))
 -- two things that both hold are equivalent
 pub together : {A B : Type 0} → A → B → A ↔ B
 together a b = (λ x. b, λ y. a)
-
--- the one part of a test that can hold
-pub left-holds : (a : Bool) → a || false ≡ true → a ≡ true
-left-holds true e = refl
-left-holds false e = absurd (false≢true e)

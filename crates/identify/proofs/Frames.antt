@@ -2,7 +2,7 @@
 use mathlib.Core.Bool.{true, or-true}
 use mathlib.Core.Path.{_≡_, refl}
 use Rattle.table.proofs.Laws.{by-test}
-use Rattle.identify.specs.Names.{receiving, spoiled, hardReset}
+use Rattle.identify.specs.Names.{hardReset}
 use Rattle.identify.specs.State.{validOf}
 use Rattle.identify.specs.Step.{quiet, onSoaf, onHardReset, mostOf, knownOf, over, moveOf, stepOf}
 use Rattle.identify.specs.Laws.{IgnoresReset, NoResetInsideFrame, SecondSoafBeginsAnew}
@@ -16,24 +16,13 @@ ignored i v e =
     (λ t. rw (v, t) (record { same = refl; silent = refl }))
     (λ f. rw (v, f, e) (record { same = refl; silent = refl }))
 
-in-receiving : (i : Identification) → i .receiver ≡ receiving → onHardReset i ≡ quiet i
-unfolding onHardReset
-in-receiving i e = rw e
-
-in-spoiled : (i : Identification) → i .receiver ≡ spoiled → onHardReset i ≡ quiet i
-unfolding onHardReset
-in-spoiled i e = rw e
-
-after-got : (i : Identification) → i .got ≡ true → onHardReset i ≡ quiet i
-unfolding onHardReset
-after-got i e = rw (e, or-true)
-
 pub no-reset-inside-frame : NoResetInsideFrame
+unfolding onHardReset
 no-reset-inside-frame i v =
     record {
-      inReceiving = λ e. ignored i v (in-receiving i e);
-      inSpoiled = λ e. ignored i v (in-spoiled i e);
-      afterGot = λ e. ignored i v (after-got i e);
+      inReceiving = λ e. ignored i v (rw e);
+      inSpoiled = λ e. ignored i v (rw e);
+      afterGot = λ e. ignored i v (rw (e, or-true));
     }
 
 pub second-soaf-begins-anew : SecondSoafBeginsAnew

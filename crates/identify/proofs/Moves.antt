@@ -1,17 +1,18 @@
 -- Where each event takes a state that has no outcome: to another without one, reporting nothing or Failed, or to one whose outcome it reports.
 use Prim.Native.Nat.{ℕ, _+_, _-_, _<_}
-use mathlib.Core.Bool.{Bool, true, false}
+use mathlib.Core.Bool.{Bool, true, false, or-true}
 use mathlib.Core.Path.{_≡_, refl}
 use native.Mathlib.Omega.{arith}
-use borrow.Author.Tests.{leb-false, eqb-false, ne-eqb}
+use borrow.Author.Tests.{le-leb, leb-false, eqb-false, ne-eqb}
 use lib.Dec.{eqb, leb}
-use Rattle.table.specs.Choice.{rows}
-use Rattle.table.proofs.Laws.{by-test, every}
+use Rattle.table.specs.Choice.{pick, rows}
+use Rattle.table.specs.Flags.{flagOf}
+use Rattle.table.proofs.Laws.{along, by-test, every}
 use Rattle.identify.specs.Names.{receiving, completed, none, failed, frameDwords}
-use Rattle.identify.specs.Step.{fresh, reports, quiet, exchanged, onSoaf, counted, onDataDword, whole, frameEnds, onEoaf, onHardReset, onOwnFrameSent, onTick, moves}
+use Rattle.identify.specs.Step.{fresh, reports, quiet, exchanged, onSoaf, saysIdentify, counted, onDataDword, whole, frameEnds, onEoaf, onHardReset, onOwnFrameSent, onTick, moves}
 use Rattle.identify.specs.declared.Identification.{Identification}
 use Rattle.identify.specs.declared.Stepped.{Stepped}
-use Rattle.identify.proofs.Shapes.{state, Place, at-idle, in-frame, in-identify, at-spoiled, at-completed, Clock, unsent, runs, Going, awaits, holds, Ended, joined, late, reset-idle, reset-completed}
+use Rattle.identify.proofs.Shapes.{state, Place, at-idle, in-frame, at-spoiled, at-completed, Clock, unsent, runs, Going, awaits, holds, Ended, joined, late, was-reset}
 
 pub data Lands : Stepped → Type 0 where
   stays : {i : Identification} {report : ℕ} → Going i → leb report failed ≡ true → Lands (reports i report)
@@ -26,34 +27,32 @@ still : {i : Identification} → Going i → Lands (quiet i)
 still g = stays g refl
 
 begun : {t : ℕ} {sent : Bool} → Clock t sent → Going (state receiving 0 t none false false sent)
-begun k = awaits (in-frame {n = 0} (omega arith)) k
+begun k = awaits (in-frame {n = 0} {typed = false} refl refl) k
 
 soaf-lands : {i : Identification} → Going i → Lands (onSoaf i)
 unfolding onSoaf
 soaf-lands (awaits at-idle k) = still (begun k)
-soaf-lands (awaits (in-frame h) k) = stays (begun k) refl
-soaf-lands (awaits (in-identify l h) k) = stays (begun k) refl
+soaf-lands (awaits (in-frame l h) k) = stays (begun k) refl
 soaf-lands (awaits at-spoiled k) = still (begun k)
 soaf-lands (awaits at-completed k) = still (awaits at-completed k)
 soaf-lands holds = still holds
 
 -- one dword more, of either type
 one-more : (n : ℕ) (typed : Bool) → n < frameDwords → Place receiving (n + 1) typed
-one-more n true h = in-identify {n = n + 1} (omega arith) (omega arith)
-one-more n false h = in-frame {n = n + 1} (omega arith)
+one-more n typed h = in-frame {n = n + 1} {typed = typed} (rw (le-leb 1 (n + 1) (omega arith), or-true)) (le-leb (n + 1) frameDwords (omega arith))
 
 counted-lands : (n t dword : ℕ) (typed sent : Bool) → Clock t sent → Lands (counted (state receiving n t none typed false sent) dword)
 unfolding counted
 counted-lands n t dword typed sent k =
     by-test (leb frameDwords n)
     (λ e. rw e (stays (awaits at-spoiled k) refl))
-    (λ e. rw e (still (awaits (one-more n _ (leb-false frameDwords n e)) k)))
+    (λ e. rw (e, ← along flagOf (eqb n 0) (saysIdentify dword) typed)
+    (still (awaits (one-more n (pick (eqb n 0) (saysIdentify dword) typed) (leb-false frameDwords n e)) k)))
 
 dword-lands : {i : Identification} (dword : ℕ) → Going i → Lands (onDataDword i dword)
 unfolding onDataDword
 dword-lands dword (awaits at-idle k) = still (awaits at-idle k)
-dword-lands dword (awaits (in-frame h) k) = counted-lands _ _ dword _ _ k
-dword-lands dword (awaits (in-identify l h) k) = counted-lands _ _ dword _ _ k
+dword-lands dword (awaits (in-frame {typed = typed} l h) k) = counted-lands _ _ dword typed _ k
 dword-lands dword (awaits at-spoiled k) = still (awaits at-spoiled k)
 dword-lands dword (awaits at-completed k) = still (awaits at-completed k)
 dword-lands dword holds = still holds
@@ -73,19 +72,17 @@ frame-lands n t crc typed sent k =
 eoaf-lands : {i : Identification} (crc : ℕ) → Going i → Lands (onEoaf i crc)
 unfolding onEoaf
 eoaf-lands crc (awaits at-idle k) = still (awaits at-idle k)
-eoaf-lands crc (awaits (in-frame h) k) = frame-lands _ _ crc _ _ k
-eoaf-lands crc (awaits (in-identify l h) k) = frame-lands _ _ crc _ _ k
+eoaf-lands crc (awaits (in-frame {typed = typed} l h) k) = frame-lands _ _ crc typed _ k
 eoaf-lands crc (awaits at-spoiled k) = still (awaits at-completed k)
 eoaf-lands crc (awaits at-completed k) = still (awaits at-completed k)
 eoaf-lands crc holds = still holds
 
 reset-lands : {i : Identification} → Going i → Lands (onHardReset i)
 unfolding onHardReset
-reset-lands (awaits at-idle k) = finishes reset-idle
-reset-lands (awaits (in-frame h) k) = still (awaits (in-frame h) k)
-reset-lands (awaits (in-identify l h) k) = still (awaits (in-identify l h) k)
+reset-lands (awaits at-idle k) = finishes (was-reset at-idle refl k)
+reset-lands (awaits (in-frame {typed = typed} l h) k) = still (awaits (in-frame {typed = typed} l h) k)
 reset-lands (awaits at-spoiled k) = still (awaits at-spoiled k)
-reset-lands (awaits at-completed k) = finishes reset-completed
+reset-lands (awaits at-completed k) = finishes (was-reset at-completed refl k)
 reset-lands holds = still holds
 
 sent-lands : {i : Identification} → Going i → Lands (onOwnFrameSent i)

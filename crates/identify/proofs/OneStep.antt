@@ -14,7 +14,7 @@ use Rattle.identify.specs.Step.{fresh, quiet, refused, knownOf, moves, m
 use Rattle.identify.specs.Laws.{FreshValid, StaysValid}
 use Rattle.identify.specs.declared.Identification.{Identification}
 use Rattle.identify.specs.declared.Stepped.{Stepped}
-use Rattle.identify.proofs.Shapes.{Going, awaits, holds, Ended, joined, late, reset-idle, reset-completed, Shape, going, ended, shape, shape-valid}
+use Rattle.identify.proofs.Shapes.{Going, awaits, holds, Ended, joined, late, was-reset, Shape, going, ended, shape, shape-valid}
 use Rattle.identify.proofs.Moves.{Lands, stays, finishes, fresh-going, table-lands}
 
 pub data Stepping (i : Identification) (event argument : ℕ) : Stepped → Type 0 where
@@ -31,13 +31,11 @@ going-none holds = refl
 pub ended-some : {i : Identification} → Ended i → eqb (i .outcome) none ≡ false
 ended-some joined = refl
 ended-some (late p) = refl
-ended-some reset-idle = refl
-ended-some reset-completed = refl
+ended-some (was-reset p e k) = refl
 
 going-moves : {i : Identification} (event argument : ℕ) → Going i → moveOf i event argument ≡ rows event (moves i argument) (quiet i)
 unfolding moveOf
-going-moves event argument (awaits p k) = refl
-going-moves event argument holds = refl
+going-moves event argument g = rw (going-none g)
 
 ended-stands : {i : Identification} (event argument : ℕ) → Ended i → eqb event enable ≡ false → moveOf i event argument ≡ quiet i
 unfolding moveOf

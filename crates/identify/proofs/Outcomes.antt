@@ -1,34 +1,26 @@
 -- After an outcome every step but Enable leaves the state and reports nothing, so a run reports at most the outcome that ends its going.
 use Prim.Native.Nat.{ℕ, _+_, _≤_}
-use mathlib.Core.Bool.{Bool, true, false, _&&_, false≢true}
+use mathlib.Core.Bool.{false, _&&_, false≢true}
 use mathlib.Core.List.{List, [], _∷_}
 use mathlib.Core.Path.{_≡_, refl, sym}
 use native.Mathlib.Omega.{arith}
-use borrow.Author.Tests.{eqb-true, eqb-false, leb-true, lt-leb}
+use borrow.Author.Tests.{eqb-false, ne-eqb, leb-true, lt-leb}
 use lib.Dec.{eqb, leb}
 use Rattle.table.specs.Choice.{pick}
+use Rattle.table.proofs.Laws.{by-pick}
 use Rattle.identify.specs.Names.{enable, none, failed, complete}
-use Rattle.identify.specs.State.{validOf}
-use Rattle.identify.specs.Step.{fresh, quiet, knownOf, stepOf}
+use Rattle.identify.specs.Step.{fresh, knownOf, moveOf, stepOf}
 use Rattle.identify.specs.Run.{Event, results, outcomesIn, NoEnable}
 use Rattle.identify.specs.Laws.{Untouched, OnlyEnable, AtMostOneOutcome}
 use Rattle.identify.specs.declared.Identification.{Identification}
 use Rattle.identify.specs.declared.Stepped.{Stepped}
-use Rattle.identify.proofs.Basics.{clash}
 use Rattle.identify.proofs.Shapes.{Going, Ended, Shape, going, ended, shape}
 use Rattle.identify.proofs.Moves.{stays, finishes, fresh-going}
 use Rattle.identify.proofs.OneStep.{Stepping, bad-state, bad-event, lands, stands, anew, going-none, ended-some, stepping}
 
-only : {i : Identification} {event argument : ℕ} {s : Stepped} → Stepping i event argument s → validOf i ≡ true → (i .outcome ≡ none → ⊥)
-    → knownOf event argument ≡ true → (event ≡ enable → ⊥) → s ≡ quiet i
-only (bad-state w) v o k n = absurd (clash v w)
-only (bad-event w j) v o k n = absurd (clash k j)
-only (lands w j g l) v o k n = absurd (o (going-none g))
-only (stands w j d f) v o k n = refl
-only {event = event} (anew w j d t) v o k n = absurd (n (eqb-true event enable t))
-
 pub only-enable : OnlyEnable
-only-enable i event argument v o k n = only (stepping i event argument) v o k n
+unfolding stepOf moveOf
+only-enable i event argument v o k n = rw (v, k, ne-eqb (i .outcome) none o, ne-eqb event enable n)
 
 -- ---- runs
 
@@ -55,10 +47,6 @@ after-end es n {i} d = silent es n i (eqb-false (i .outcome) none (ended-some d)
 abbrev since : List Event → Stepped → ℕ
 since es s = pick (leb complete (s .report)) 1 0 + outcomesIn (results (s .next) es)
 
-at-most-here : (b : Bool) → pick b 1 0 ≤ 1
-at-most-here true = omega arith
-at-most-here false = omega arith
-
 -- what is left to report where the run goes on from here, given what is left from any state without an outcome
 one-more : (es : List Event) → NoEnable es → ((i : Identification) → Going i → outcomesIn (results i es) ≤ 1)
     → {i : Identification} {event argument : ℕ} {s : Stepped} → Going i → Stepping i event argument s → since es s ≤ 1
@@ -66,7 +54,8 @@ one-more es n rest {i} g (bad-state v) = omega (arith, rest i g)
 one-more es n rest {i} g (bad-event v k) = omega (arith, rest i g)
 one-more es n rest g (lands v k h (stays {i = j} {report = report} a r)) =
     rw (lt-leb complete report (omega (arith, leb-true report failed r))) (omega (arith, rest j a))
-one-more es n rest g (lands v k h (finishes {i = j} d)) = omega (arith, at-most-here (leb complete (j .outcome)), after-end es n d)
+one-more es n rest g (lands v k h (finishes {i = j} d)) =
+    omega (arith, by-pick (λ n. n ≤ 1) (leb complete (j .outcome)) {a = 1} {b = 0} (λ _. omega arith) (λ _. omega arith), after-end es n d)
 one-more es n rest {i} g (stands v k d f) = omega (arith, rest i g)
 one-more es n rest g (anew v k d t) = omega (arith, rest fresh fresh-going)
 

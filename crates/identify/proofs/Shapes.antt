@@ -1,20 +1,20 @@
 -- A valid state has one of a few shapes, and each of these is valid: every law over valid states goes by them.
 use Prim.Native.Nat.{ℕ, zero, suc, _≤_, _<_}
-use mathlib.Core.Bool.{Bool, true, false, _&&_, _||_, not, false≢true}
-use mathlib.Core.Path.{_≡_, refl, sym, subst}
+use mathlib.Core.Bool.{Bool, true, false, _&&_, _||_, and-false, or-false, false≢true}
+use mathlib.Core.Path.{_≡_, refl, sym, _∙_, subst}
 use native.Mathlib.Omega.{arith}
 use borrow.Author.Tests.{le-leb, leb-true, eqb-true, ne-eqb}
 use lib.Dec.{eqb, leb}
 use Rattle.table.proofs.Laws.{parts}
 use Rattle.identify.specs.Names.{idle, receiving, spoiled, completed, none, complete, timedOut, resetReceived, frameDwords, mostTicks}
 use Rattle.table.specs.Choice.{split}
-use Rattle.identify.specs.State.{receiverRight, countRight, typedRight, gotRight, timerRight, outcomeRight, completeRight, timedOutRight, resetRight, validOf}
+use Rattle.table.specs.Flags.{on, isFlag, isOn, flagOf}
+use Rattle.identify.specs.State.{only, flagsRight, receiverRight, countRight, typedRight, gotRight, timerRight, outcomeRight, completeRight, timedOutRight, resetRight, validOf}
 use Rattle.identify.specs.declared.Identification.{Identification}
-use Rattle.identify.proofs.Basics.{left-holds}
 
 -- ---- the shapes
 
--- a state by its fields
+-- a state by its fields, its flags by what they say
 abbrev pub state : (receiver count timer outcome : ℕ) (typed got sent : Bool) → Identification
 state receiver count timer outcome typed got sent =
     record {
@@ -22,16 +22,15 @@ state receiver count timer outcome typed got sent =
       count = count;
       timer = timer;
       outcome = outcome;
-      typed = typed;
-      got = got;
-      sent = sent;
+      typed = flagOf typed;
+      got = flagOf got;
+      sent = flagOf sent;
     }
 
 -- where the receiver is, what it has counted, and whether the type is known
 pub data Place : ℕ → ℕ → Bool → Type 0 where
   at-idle : Place idle 0 false
-  in-frame : {n : ℕ} → n ≤ frameDwords → Place receiving n false
-  in-identify : {n : ℕ} → 1 ≤ n → n ≤ frameDwords → Place receiving n true
+  in-frame : {n : ℕ} {typed : Bool} → only (isOn (flagOf typed)) (leb 1 n) ≡ true → leb n frameDwords ≡ true → Place receiving n typed
   at-spoiled : Place spoiled 0 false
   at-completed : Place completed 0 false
 
@@ -49,8 +48,7 @@ pub data Going : Identification → Type 0 where
 pub data Ended : Identification → Type 0 where
   joined : Ended (state completed 0 0 complete false true true)
   late : {r n : ℕ} {typed : Bool} → Place r n typed → Ended (state r n 0 timedOut typed false true)
-  reset-idle : {sent : Bool} → Ended (state idle 0 0 resetReceived false false sent)
-  reset-completed : {sent : Bool} → Ended (state completed 0 0 resetReceived false false sent)
+  was-reset : {r n t : ℕ} {typed sent : Bool} → Place r n typed → eqb r idle || eqb r completed ≡ true → Clock t sent → Ended (state r n 0 resetReceived typed false sent)
 
 -- either
 pub data Shape : Identification → Type 0 where
@@ -59,14 +57,17 @@ pub data Shape : Identification → Type 0 where
 
 -- ---- each shape is valid
 
+-- what says a test is a flag
+is-flag : (test : Bool) → isFlag (flagOf test) ≡ true
+is-flag true = refl
+is-flag false = refl
+
 going-valid : {i : Identification} → Going i → validOf i ≡ true
 unfolding validOf
 going-valid (awaits at-idle unsent) = refl
 going-valid (awaits at-idle (runs a b)) = rw (le-leb _ _ a, le-leb _ _ b)
-going-valid (awaits (in-frame h) unsent) = rw (le-leb _ _ h)
-going-valid (awaits (in-frame h) (runs a b)) = rw (le-leb _ _ h, le-leb _ _ a, le-leb _ _ b)
-going-valid (awaits (in-identify k h) unsent) = rw (le-leb _ _ h, le-leb _ _ k)
-going-valid (awaits (in-identify k h) (runs a b)) = rw (le-leb _ _ h, le-leb _ _ k, le-leb _ _ a, le-leb _ _ b)
+going-valid (awaits (in-frame {typed = typed} l h) unsent) = rw (is-flag typed, l, h)
+going-valid (awaits (in-frame {typed = typed} l h) (runs a b)) = rw (is-flag typed, l, h, le-leb _ _ a, le-leb _ _ b)
 going-valid (awaits at-spoiled unsent) = refl
 going-valid (awaits at-spoiled (runs a b)) = rw (le-leb _ _ a, le-leb _ _ b)
 going-valid (awaits at-completed unsent) = refl
@@ -77,14 +78,13 @@ ended-valid : {i : Identification} → Ended i → validOf i ≡ true
 unfolding validOf
 ended-valid joined = refl
 ended-valid (late at-idle) = refl
-ended-valid (late (in-frame h)) = rw (le-leb _ _ h)
-ended-valid (late (in-identify k h)) = rw (le-leb _ _ h, le-leb _ _ k)
+ended-valid (late (in-frame {typed = typed} l h)) = rw (is-flag typed, l, h)
 ended-valid (late at-spoiled) = refl
 ended-valid (late at-completed) = refl
-ended-valid (reset-idle {sent = true}) = refl
-ended-valid (reset-idle {sent = false}) = refl
-ended-valid (reset-completed {sent = true}) = refl
-ended-valid (reset-completed {sent = false}) = refl
+ended-valid (was-reset {sent = sent} at-idle e k) = simp (is-flag sent, and-false)
+ended-valid (was-reset (in-frame l h) e k) = absurd (false≢true e)
+ended-valid (was-reset at-spoiled e k) = absurd (false≢true e)
+ended-valid (was-reset {sent = sent} at-completed e k) = simp (is-flag sent, and-false)
 
 pub shape-valid : {i : Identification} → Shape i → validOf i ≡ true
 shape-valid (going g) = going-valid g
@@ -94,11 +94,12 @@ shape-valid (ended e) = ended-valid e
 
 -- the rules, one by one
 record Rules (i : Identification) : Type 0 where
+  pub flags : flagsRight i ≡ true
   pub receiver : receiverRight i ≡ true
   pub count : countRight i ≡ true
-  pub typed : typedRight i ≡ true
-  pub got : gotRight i ≡ true
   pub timer : timerRight i ≡ true
+  pub got : gotRight i ≡ true
+  pub typed : typedRight i ≡ true
   pub outcome : outcomeRight i ≡ true
   pub complete : completeRight i ≡ true
   pub timedOut : timedOutRight i ≡ true
@@ -107,31 +108,26 @@ record Rules (i : Identification) : Type 0 where
 rules : (i : Identification) → validOf i ≡ true → Rules i
 unfolding validOf
 rules i v =
-    let two = receiverRight i && countRight i in
-    let three = two && typedRight i in
-    let four = three && gotRight i in
-    let five = four && timerRight i in
-    let six = five && outcomeRight i in
-    let seven = six && completeRight i in
-    let eight = seven && timedOutRight i in
-    let v8 = parts eight (resetRight i) v in
-    let v7 = parts seven (timedOutRight i) (v8 .0) in
-    let v6 = parts six (completeRight i) (v7 .0) in
-    let v5 = parts five (outcomeRight i) (v6 .0) in
-    let v4 = parts four (timerRight i) (v5 .0) in
-    let v3 = parts three (gotRight i) (v4 .0) in
-    let v2 = parts two (typedRight i) (v3 .0) in
-    let v1 = parts (receiverRight i) (countRight i) (v2 .0) in
+    let v9 = parts _ (resetRight i) v in
+    let v8 = parts _ (timedOutRight i) (v9 .0) in
+    let v7 = parts _ (completeRight i) (v8 .0) in
+    let v6 = parts _ (outcomeRight i) (v7 .0) in
+    let v5 = parts _ (typedRight i) (v6 .0) in
+    let v4 = parts _ (gotRight i) (v5 .0) in
+    let v3 = parts _ (timerRight i) (v4 .0) in
+    let v2 = parts _ (countRight i) (v3 .0) in
+    let v1 = parts (flagsRight i) (receiverRight i) (v2 .0) in
     record {
-      receiver = v1 .0;
-      count = v1 .1;
-      typed = v2 .1;
-      got = v3 .1;
-      timer = v4 .1;
-      outcome = v5 .1;
-      complete = v6 .1;
-      timedOut = v7 .1;
-      reset = v8 .1;
+      flags = v1 .0;
+      receiver = v1 .1;
+      count = v2 .1;
+      timer = v3 .1;
+      got = v4 .1;
+      typed = v5 .1;
+      outcome = v6 .1;
+      complete = v7 .1;
+      timedOut = v8 .1;
+      reset = v9 .1;
     }
 
 -- what holds at 0 holds of a number that the test says is 0
@@ -139,19 +135,14 @@ at-zero : (P : ℕ → Type 0) → P 0 → (n : ℕ) → eqb n 0 ≡ true → P 
 at-zero P p n e = subst P (sym (eqb-true n 0 e)) p
 
 -- outside a frame nothing is counted and no type known
-outside : {r : ℕ} → Place r 0 false → (n : ℕ) (typed : Bool) → eqb n 0 ≡ true → not typed || false ≡ true → Place r n typed
+outside : {r : ℕ} → Place r 0 false → (n : ℕ) (typed : Bool) → eqb n 0 ≡ true → only (isOn (flagOf typed)) false ≡ true → Place r n typed
 outside {r} p n true e f = absurd (false≢true f)
 outside {r} p n false e f = at-zero (λ m. Place r m false) p n e
-
--- inside a frame a type is known from the first dword on
-inside : (n : ℕ) (typed : Bool) → leb n frameDwords ≡ true → not typed || leb 1 n ≡ true → Place receiving n typed
-inside n true h k = in-identify (leb-true 1 n k) (leb-true n frameDwords h)
-inside n false h k = in-frame (leb-true n frameDwords h)
 
 -- the receiver's rules alone give its place
 place : (r n t o : ℕ) (typed got sent : Bool) → Rules (state r n t o typed got sent) → Place r n typed
 place zero n t o typed got sent v = outside at-idle n typed (v .count) (v .typed)
-place (suc zero) n t o typed got sent v = inside n typed (left-holds (leb n frameDwords) (v .count)) (v .typed)
+place (suc zero) n t o typed got sent v = in-frame (v .typed) (sym (or-false (leb n frameDwords)) ∙ v .count)
 place (suc (suc zero)) n t o typed got sent v = outside at-spoiled n typed (v .count) (v .typed)
 place (suc (suc (suc zero))) n t o typed got sent v = outside at-completed n typed (v .count) (v .typed)
 place (suc (suc (suc (suc r)))) n t o typed got sent v = absurd (omega (arith, leb-true (suc (suc (suc (suc r)))) completed (v .receiver)))
@@ -159,15 +150,14 @@ place (suc (suc (suc (suc r)))) n t o typed got sent v = absurd (omega (arith, l
 -- what holds where a frame has ended
 at-end : (P : ℕ → ℕ → Bool → Type 0) → P completed 0 false → {r n : ℕ} {typed : Bool} → Place r n typed → eqb r completed ≡ true → P r n typed
 at-end P p at-idle e = absurd (false≢true e)
-at-end P p (in-frame h) e = absurd (false≢true e)
-at-end P p (in-identify k h) e = absurd (false≢true e)
+at-end P p (in-frame l h) e = absurd (false≢true e)
 at-end P p at-spoiled e = absurd (false≢true e)
 at-end P p at-completed e = p
 
 -- the timer's rule gives the clock, while nothing is got and there is no outcome
-clock : (t : ℕ) (sent : Bool) → split (sent && true && true) (leb 1 t && leb t mostTicks) (eqb t 0) ≡ true → Clock t sent
+clock : (t : ℕ) (sent : Bool) → split (isOn (flagOf sent) && true && true) (leb 1 t && leb t mostTicks) (eqb t 0) ≡ true → Clock t sent
 clock t true e =
-    let h = parts (leb 1 t) (leb t mostTicks) (left-holds (leb 1 t && leb t mostTicks) e) in
+    let h = parts (leb 1 t) (leb t mostTicks) (sym (or-false (leb 1 t && leb t mostTicks)) ∙ e) in
     runs (leb-true 1 t (h .0)) (leb-true t mostTicks (h .1))
 clock t false e = at-zero (λ u. Clock u false) unsent t e
 
@@ -190,25 +180,18 @@ when-complete r n t typed true true v =
     (place r n t complete typed true true v) (v .got)
 
 when-late : (r n t : ℕ) (typed got sent : Bool) → Rules (state r n t timedOut typed got sent) → Ended (state r n t timedOut typed got sent)
+when-late r n t typed got false v = absurd (false≢true (v .timedOut))
 when-late r n t typed true true v = absurd (false≢true (v .timedOut))
-when-late r n t typed true false v = absurd (false≢true (v .timedOut))
-when-late r n t typed false false v = absurd (false≢true (v .timedOut))
 when-late r n t typed false true v =
     at-zero (λ u. Ended (state r n u timedOut typed false true)) (late (place r n t timedOut typed false true v)) t (v .timer)
-
-reset-at : {r n : ℕ} {typed : Bool} (sent : Bool) → Place r n typed → eqb r idle || eqb r completed ≡ true → Ended (state r n 0 resetReceived typed false sent)
-reset-at sent at-idle e = reset-idle
-reset-at sent (in-frame h) e = absurd (false≢true e)
-reset-at sent (in-identify k h) e = absurd (false≢true e)
-reset-at sent at-spoiled e = absurd (false≢true e)
-reset-at sent at-completed e = reset-completed
 
 when-reset : (r n t : ℕ) (typed got sent : Bool) → Rules (state r n t resetReceived typed got sent) → Ended (state r n t resetReceived typed got sent)
 when-reset r n t typed true sent v = absurd (false≢true (v .reset))
 when-reset r n t typed false true v =
-    at-zero (λ u. Ended (state r n u resetReceived typed false true)) (reset-at true (place r n t resetReceived typed false true v) (v .reset)) t (v .timer)
+    at-zero (λ u. Ended (state r n u resetReceived typed false true))
+    (was-reset (place r n t resetReceived typed false true v) (v .reset) (runs {t = 1} (omega arith) (omega arith))) t (v .timer)
 when-reset r n t typed false false v =
-    at-zero (λ u. Ended (state r n u resetReceived typed false false)) (reset-at false (place r n t resetReceived typed false false v) (v .reset)) t (v .timer)
+    at-zero (λ u. Ended (state r n u resetReceived typed false false)) (was-reset (place r n t resetReceived typed false false v) (v .reset) unsent) t (v .timer)
 
 -- there are no further outcomes
 beyond : (o : ℕ) → resetReceived < o → eqb o none || eqb o complete || eqb o timedOut || eqb o resetReceived ≡ true → ⊥
@@ -224,5 +207,20 @@ shaped r n t (suc (suc (suc zero))) typed got sent v = ended (when-late r n t ty
 shaped r n t (suc (suc (suc (suc zero)))) typed got sent v = ended (when-reset r n t typed got sent v)
 shaped r n t (suc (suc (suc (suc (suc o))))) typed got sent v = absurd (beyond (suc (suc (suc (suc (suc o))))) (omega arith) (v .outcome))
 
+-- a flag is what says its own test
+said : (n : ℕ) → isFlag n ≡ true → flagOf (isOn n) ≡ n
+said zero e = refl
+said (suc zero) e = refl
+said (suc (suc n)) e = absurd (omega (arith, leb-true (suc (suc n)) on e))
+
+-- so a state whose flags are right is one by what they say
+by-flags : (i : Identification) → flagsRight i ≡ true → state (i .receiver) (i .count) (i .timer) (i .outcome) (isOn (i .typed)) (isOn (i .got)) (isOn (i .sent)) ≡ i
+by-flags i e =
+    let f = parts _ (isFlag (i .sent)) e in
+    let g = parts (isFlag (i .typed)) (isFlag (i .got)) (f .0) in
+    rw (said (i .typed) (g .0), said (i .got) (g .1), said (i .sent) (f .1))
+
 pub shape : (i : Identification) → validOf i ≡ true → Shape i
-shape i v = shaped (i .receiver) (i .count) (i .timer) (i .outcome) (i .typed) (i .got) (i .sent) (rules i v)
+shape i v =
+    let p = by-flags i (rules i v .flags) in
+    subst Shape p (shaped (i .receiver) (i .count) (i .timer) (i .outcome) (isOn (i .typed)) (isOn (i .got)) (isOn (i .sent)) (subst Rules (sym p) (rules i v)))

@@ -1,10 +1,11 @@
 -- The timer runs in one kind of shape, and each tick there takes one off until the last gives the outcome.
 use Prim.Native.Nat.{ℕ, zero, suc, _-_, _≤_, _<_}
-use mathlib.Core.Bool.{Bool, true, false, false≢true}
+use mathlib.Core.Bool.{Bool, true, false}
 use mathlib.Core.Logic.{_↔_}
 use mathlib.Core.Path.{_≡_, refl, sym, ap, _∙_}
 use native.Mathlib.Omega.{arith}
 use borrow.Author.Tests.{eqb-false, ne-eqb}
+use Rattle.table.proofs.Laws.{apart}
 use Rattle.identify.specs.Names.{ownFrameSent, tick, none, complete, timedOut, resetReceived, mostTicks}
 use Rattle.identify.specs.Step.{timed, quiet, ends, exchanged, onOwnFrameSent, onTick, mostOf, knownOf, moveOf, stepOf}
 use Rattle.identify.specs.Run.{afterSent, afterTicks}
@@ -12,16 +13,15 @@ use Rattle.identify.specs.Laws.{Awaited, TimerRunsExactly, StartsTimer, 
 use Rattle.identify.specs.declared.Identification.{Identification}
 use Rattle.identify.specs.declared.Stepped.{Stepped}
 use Rattle.identify.proofs.Basics.{neither, together}
-use Rattle.identify.proofs.Shapes.{state, Place, unsent, runs, awaits, holds, joined, late, reset-idle, reset-completed, Shape, going, ended, shape, shape-valid}
+use Rattle.identify.proofs.Shapes.{state, Place, unsent, runs, awaits, holds, joined, late, was-reset, Shape, going, ended, shape, shape-valid}
 
 exactly : {i : Identification} → Shape i → (i .timer ≡ 0 → ⊥) ↔ Awaited i
-exactly (going (awaits p unsent)) = neither (λ h. h refl) (λ w. false≢true (w .sent))
+exactly (going (awaits p unsent)) = neither (λ h. h refl) (λ w. apart (w .sent))
 exactly (going (awaits p (runs a b))) = together (λ e. omega arith) (record { sent = refl; notGot = refl; noOutcome = refl })
-exactly (going holds) = neither (λ h. h refl) (λ w. false≢true (w .sent))
+exactly (going holds) = neither (λ h. h refl) (λ w. apart (w .sent))
 exactly (ended joined) = neither (λ h. h refl) (λ w. eqb-false complete none refl (w .noOutcome))
 exactly (ended (late p)) = neither (λ h. h refl) (λ w. eqb-false timedOut none refl (w .noOutcome))
-exactly (ended reset-idle) = neither (λ h. h refl) (λ w. eqb-false resetReceived none refl (w .noOutcome))
-exactly (ended reset-completed) = neither (λ h. h refl) (λ w. eqb-false resetReceived none refl (w .noOutcome))
+exactly (ended (was-reset p e k)) = neither (λ h. h refl) (λ w. eqb-false resetReceived none refl (w .noOutcome))
 
 pub timer-runs-exactly : TimerRunsExactly
 timer-runs-exactly i v = exactly (shape i v)
@@ -60,35 +60,30 @@ module _ {r n : ℕ} {typed : Bool} (p : Place r n typed) where
   tick-after m h = ap (λ (i : Identification). stepOf i tick 0) (falling m h)
 
 -- where the own frame starts the timer there is one shape
-starting : (P : Identification → Type 0) → ((r n : ℕ) (typed : Bool) → Place r n typed → P (state r n 0 none typed false false))
-    → {i : Identification} → Shape i → i .sent ≡ false → i .got ≡ false → i .outcome ≡ none → P i
-starting P at (going (awaits p unsent)) s g o = at _ _ _ p
-starting P at (going (awaits p (runs a b))) s g o = absurd (false≢true (sym s))
-starting P at (going holds) s g o = absurd (false≢true (sym g))
-starting P at (ended joined) s g o = absurd (false≢true (sym g))
-starting P at (ended (late p)) s g o = absurd (false≢true (sym s))
-starting P at (ended reset-idle) s g o = absurd (eqb-false resetReceived none refl o)
-starting P at (ended reset-completed) s g o = absurd (eqb-false resetReceived none refl o)
-
 from-start : (P : Identification → Type 0) → ((r n : ℕ) (typed : Bool) → Place r n typed → P (state r n 0 none typed false false))
-    → (i : Identification) → StartsTimer i → P i
-from-start P at i s = starting P at (shape i (s .right)) (s .notSent) (s .notGot) (s .noOutcome)
+    → {i : Identification} → Shape i → StartsTimer i → P i
+from-start P at (going (awaits p unsent)) s = at _ _ _ p
+from-start P at (going (awaits p (runs a b))) s = apart (sym (s .notSent))
+from-start P at (going holds) s = apart (sym (s .notGot))
+from-start P at (ended joined) s = apart (sym (s .notGot))
+from-start P at (ended (late p)) s = apart (sym (s .notSent))
+from-start P at (ended (was-reset p e k)) s = absurd (eqb-false resetReceived none refl (s .noOutcome))
 
 pub timer-falls : TimerFalls
-timer-falls =
+timer-falls i s =
     from-start (λ i. (m : ℕ) → m < mostTicks → afterTicks m (afterSent i) ≡ timed (afterSent i) (mostTicks - m))
-    (λ r n typed p m h. rw (starts p) (falling p m h))
+    (λ r n typed p m h. rw (starts p) (falling p m h)) (shape i (s .right)) s
 
 pub ticks-silent : TicksSilent
-ticks-silent =
+ticks-silent i s =
     from-start (λ i. (m : ℕ) → suc m < mostTicks → stepOf (afterTicks m (afterSent i)) tick 0 .report ≡ none)
-    (λ r n typed p m h. rw (starts p, tick-after p m (omega arith), ticked p (mostTicks - m) (omega arith) (omega arith)))
+    (λ r n typed p m h. rw (starts p, tick-after p m (omega arith), ticked p (mostTicks - m) (omega arith) (omega arith))) (shape i (s .right)) s
 
 -- the timer after 999 ticks is at 1
 at-last : {r n : ℕ} {typed : Bool} → Place r n typed → (t : ℕ) → t ≡ 1 → RanOut (stepOf (running r n typed t) tick 0)
 at-last p t e = rw (e, last-tick p) (record { told = refl; kept = refl; stopped = refl })
 
 pub thousandth-tick : ThousandthTick
-thousandth-tick =
+thousandth-tick i s =
     from-start (λ i. (m : ℕ) → suc m ≡ mostTicks → RanOut (stepOf (afterTicks m (afterSent i)) tick 0))
-    (λ r n typed p m e. rw (starts p, tick-after p m (omega arith)) (at-last p (mostTicks - m) (omega arith)))
+    (λ r n typed p m e. rw (starts p, tick-after p m (omega arith)) (at-last p (mostTicks - m) (omega arith))) (shape i (s .right)) s

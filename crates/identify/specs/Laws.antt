@@ -4,6 +4,7 @@ use mathlib.Core.Bool.{Bool, true, false}
 use mathlib.Core.List.{List}
 use mathlib.Core.Logic.{_↔_}
 use mathlib.Core.Path.{_≡_}
+use Rattle.table.specs.Flags.{off, on}
 use Rattle.table.specs.Refusals.{badState, badEvent}
 use Rattle.identify.specs.Names.{receiving, spoiled, soaf, hardReset, tick, enable, none, failed, complete, timedOut, mostTicks}
 use Rattle.identify.specs.State.{both, validOf}
@@ -74,7 +75,7 @@ IgnoresReset i = Untouched i (stepOf i hardReset 0)
 pub record ResetIgnored (i : Identification) : Type 0 where
   pub inReceiving : i .receiver ≡ receiving → IgnoresReset i
   pub inSpoiled : i .receiver ≡ spoiled → IgnoresReset i
-  pub afterGot : i .got ≡ true → IgnoresReset i
+  pub afterGot : i .got ≡ on → IgnoresReset i
 
 -- version one took a HARD_RESET inside a frame; no valid state does
 abbrev pub NoResetInsideFrame : Type 0
@@ -85,7 +86,7 @@ pub record BeganAnew (s : Stepped) : Type 0 where
   pub fails : s .report ≡ failed
   pub framed : s .next .receiver ≡ receiving
   pub empty : s .next .count ≡ 0
-  pub untyped : s .next .typed ≡ false
+  pub untyped : s .next .typed ≡ off
 
 -- a second SOAF in a frame starts the count anew
 abbrev pub SecondSoafBeginsAnew : Type 0
@@ -95,7 +96,7 @@ SecondSoafBeginsAnew = (i : Identification) → validOf i ≡ true → i .receiv
 
 -- the outcome is Complete exactly when the identify is got and the own frame sent
 abbrev pub CompleteExactly : Type 0
-CompleteExactly = (i : Identification) → validOf i ≡ true → i .outcome ≡ complete ↔ (i .got ≡ true) × (i .sent ≡ true)
+CompleteExactly = (i : Identification) → validOf i ≡ true → i .outcome ≡ complete ↔ (i .got ≡ on) × (i .sent ≡ on)
 
 -- a step reports Complete exactly when it brings the two together, whichever came first
 abbrev pub CompleteReported : Type 0
@@ -107,8 +108,8 @@ CompleteReported =
 
 -- the other side's frame is awaited
 pub record Awaited (i : Identification) : Type 0 where
-  pub sent : i .sent ≡ true
-  pub notGot : i .got ≡ false
+  pub sent : i .sent ≡ on
+  pub notGot : i .got ≡ off
   pub noOutcome : i .outcome ≡ none
 
 -- the timer runs exactly while it is
@@ -118,8 +119,8 @@ TimerRunsExactly = (i : Identification) → validOf i ≡ true → (i .timer ≡
 -- where sending the own frame starts the timer
 pub record StartsTimer (i : Identification) : Type 0 where
   pub right : validOf i ≡ true
-  pub notSent : i .sent ≡ false
-  pub notGot : i .got ≡ false
+  pub notSent : i .sent ≡ off
+  pub notGot : i .got ≡ off
   pub noOutcome : i .outcome ≡ none
 
 -- after n ticks, fewer than a thousand, nothing but the timer has changed

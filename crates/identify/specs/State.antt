@@ -2,6 +2,7 @@
 use mathlib.Core.Bool.{Bool, _&&_, _||_, not}
 use lib.Dec.{eqb, leb}
 use Rattle.table.specs.Choice.{split}
+use Rattle.table.specs.Flags.{isFlag, isOn}
 use Rattle.identify.specs.Names.{idle, receiving, completed, none, complete, timedOut, resetReceived, frameDwords, mostTicks}
 use Rattle.identify.specs.declared.Identification.{Identification}
 
@@ -15,11 +16,15 @@ inFrame i = eqb (i .receiver) receiving
 
 -- the identify got and the own frame sent
 abbrev pub both : Identification → Bool
-both i = i .got && i .sent
+both i = isOn (i .got) && isOn (i .sent)
 
 -- the other side's frame is still awaited, and time runs
 abbrev pub awaiting : Identification → Bool
-awaiting i = i .sent && not (i .got) && eqb (i .outcome) none
+awaiting i = isOn (i .sent) && not (isOn (i .got)) && eqb (i .outcome) none
+
+-- each flag is off or on
+abbrev pub flagsRight : Identification → Bool
+flagsRight i = isFlag (i .typed) && isFlag (i .got) && isFlag (i .sent)
 
 -- the receiver is one of its four states
 abbrev pub receiverRight : Identification → Bool
@@ -35,11 +40,11 @@ timerRight i = split (awaiting i) (leb 1 (i .timer) && leb (i .timer) mostTicks)
 
 -- an identify is got only where a frame has ended
 abbrev pub gotRight : Identification → Bool
-gotRight i = only (i .got) (eqb (i .receiver) completed)
+gotRight i = only (isOn (i .got)) (eqb (i .receiver) completed)
 
 -- the type is known to be Identify only in a frame, from its first dword on
 abbrev pub typedRight : Identification → Bool
-typedRight i = only (i .typed) (inFrame i && leb 1 (i .count))
+typedRight i = only (isOn (i .typed)) (inFrame i && leb 1 (i .count))
 
 -- the outcome is none or one of the three
 abbrev pub outcomeRight : Identification → Bool
@@ -51,13 +56,13 @@ completeRight i = split (eqb (i .outcome) complete) (both i) (not (both i))
 
 -- Identify Time-Out needs the own frame sent and none got
 abbrev pub timedOutRight : Identification → Bool
-timedOutRight i = only (eqb (i .outcome) timedOut) (i .sent && not (i .got))
+timedOutRight i = only (eqb (i .outcome) timedOut) (isOn (i .sent) && not (isOn (i .got)))
 
 -- Reset Received needs none got, and no frame under way
 abbrev pub resetRight : Identification → Bool
-resetRight i = only (eqb (i .outcome) resetReceived) (not (i .got) && (eqb (i .receiver) idle || eqb (i .receiver) completed))
+resetRight i = only (eqb (i .outcome) resetReceived) (not (isOn (i .got)) && (eqb (i .receiver) idle || eqb (i .receiver) completed))
 
 -- every rule holds
 unfoldable pub validOf : Identification → Bool
 validOf i =
-    receiverRight i && countRight i && typedRight i && gotRight i && timerRight i && outcomeRight i && completeRight i && timedOutRight i && resetRight i
+    flagsRight i && receiverRight i && countRight i && timerRight i && gotRight i && typedRight i && outcomeRight i && completeRight i && timedOutRight i && resetRight i

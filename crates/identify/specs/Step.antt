@@ -1,9 +1,10 @@
 -- What each event does to a state, in the paper's order, and what the step is for any record and numbers.
 use Prim.Native.Nat.{ℕ, _+_, _-_, _/_, _%_}
-use mathlib.Core.Bool.{Bool, true, false, _&&_, _||_, not}
+use mathlib.Core.Bool.{Bool, _&&_, _||_, not}
 use mathlib.Core.List.{List, [], _∷_}
 use lib.Dec.{eqb, leb}
-use Rattle.table.specs.Choice.{pick, split, Row, _⇒_, rows}
+use Rattle.table.specs.Choice.{pick, Row, _⇒_, rows}
+use Rattle.table.specs.Flags.{off, on, isOn, flagOf}
 use Rattle.table.specs.Refusals.{badState, badEvent}
 use Rattle.identify.specs.Names.{idle, receiving, spoiled, completed, soaf, dataDword, eoaf, hardReset, otherPrimitive, ownFrameSent, tick, enable, none, failed, complete, timedOut, resetReceived, frameDwords, identifyType, typePlace, typeValues, crcGood, mostDword, mostTicks}
 use Rattle.identify.specs.State.{both, validOf}
@@ -14,10 +15,10 @@ use Rattle.identify.specs.declared.Stepped.{Stepped}
 
 -- Idle, all else unset
 abbrev pub fresh : Identification
-fresh = record { receiver = idle; count = 0; timer = 0; outcome = none; typed = false; got = false; sent = false }
+fresh = record { receiver = idle; count = 0; timer = 0; outcome = none; typed = off; got = off; sent = off }
 
 -- the receiver goes to a state, with n dwords counted and the type Identify or not
-abbrev pub goes : Identification → (receiver n : ℕ) → Bool → Identification
+abbrev pub goes : Identification → (receiver n typed : ℕ) → Identification
 goes i receiver n typed =
     record {
       receiver = receiver;
@@ -29,16 +30,8 @@ goes i receiver n typed =
       sent = i .sent;
     }
 
--- inside a frame, with n dwords counted
-abbrev pub counting : Identification → ℕ → Bool → Identification
-counting i n typed = goes i receiving n typed
-
--- outside a frame
-abbrev pub leaving : Identification → ℕ → Identification
-leaving i receiver = goes i receiver 0 false
-
 -- the exchange stands so: the timer, the outcome, got and sent
-abbrev pub stands : Identification → (timer outcome : ℕ) → (got sent : Bool) → Identification
+abbrev pub stands : Identification → (timer outcome got sent : ℕ) → Identification
 stands i timer outcome got sent =
     record {
       receiver = i .receiver;
@@ -82,24 +75,24 @@ refused i refusal = record { next = i; report = none; refusal = refusal }
 unfoldable pub onSoaf : Identification → Stepped
 onSoaf i =
     rows (i .receiver)
-    ((idle ⇒ quiet (counting i 0 false))
-    ∷ (receiving ⇒ reports (counting i 0 false) failed)
-    ∷ (spoiled ⇒ quiet (counting i 0 false)) ∷ []) (quiet i)
+    ((idle ⇒ quiet (goes i receiving 0 off))
+    ∷ (receiving ⇒ reports (goes i receiving 0 off) failed)
+    ∷ (spoiled ⇒ quiet (goes i receiving 0 off)) ∷ []) (quiet i)
 
 -- whether a frame's first dword says that it is an identify frame: bits 27 to 24
 abbrev pub saysIdentify : ℕ → Bool
 saysIdentify dword = eqb (dword / typePlace % typeValues) identifyType
 
 -- the type after a dword: the first fixes it
-abbrev pub typeAfter : Identification → ℕ → Bool
-typeAfter i dword = split (eqb (i .count) 0) (saysIdentify dword) (i .typed)
+abbrev pub typeAfter : Identification → ℕ → ℕ
+typeAfter i dword = pick (eqb (i .count) 0) (flagOf (saysIdentify dword)) (i .typed)
 
 -- a dword inside a frame: a ninth is too many
 unfoldable pub counted : Identification → ℕ → Stepped
 counted i dword =
     pick (leb frameDwords (i .count))
-    (reports (leaving i spoiled) failed)
-    (quiet (counting i (i .count + 1) (typeAfter i dword)))
+    (reports (goes i spoiled 0 off) failed)
+    (quiet (goes i receiving (i .count + 1) (typeAfter i dword)))
 
 -- 1, a data dword: counted inside a frame
 unfoldable pub onDataDword : Identification → ℕ → Stepped
@@ -107,27 +100,27 @@ onDataDword i dword = rows (i .receiver) ((receiving ⇒ counted i dword) ∷ []
 
 -- eight dwords, of type Identify, with a good CRC
 abbrev pub whole : Identification → ℕ → Bool
-whole i crc = eqb (i .count) frameDwords && i .typed && eqb crc crcGood
+whole i crc = eqb (i .count) frameDwords && isOn (i .typed) && eqb crc crcGood
 
 -- the identify is got
 abbrev pub gets : Identification → Identification
-gets i = stands i (i .timer) (i .outcome) true (i .sent)
+gets i = stands i (i .timer) (i .outcome) on (i .sent)
 
 -- the frame under way ends: the identify is got, or the frame has failed
 unfoldable pub frameEnds : Identification → ℕ → Stepped
 frameEnds i crc =
-    pick (whole i crc) (exchanged (gets (leaving i completed))) (reports (leaving i completed) failed)
+    pick (whole i crc) (exchanged (gets (goes i completed 0 off))) (reports (goes i completed 0 off) failed)
 
 -- 2, a frame ends; a spoiled one was reported before
 unfoldable pub onEoaf : Identification → ℕ → Stepped
 onEoaf i crc =
     rows (i .receiver)
     ((receiving ⇒ frameEnds i crc)
-    ∷ (spoiled ⇒ quiet (leaving i completed)) ∷ []) (quiet i)
+    ∷ (spoiled ⇒ quiet (goes i completed 0 off)) ∷ []) (quiet i)
 
 -- where a HARD_RESET is ignored: in a frame, a spoiled one too, and once the identify is got
 abbrev pub ignoresReset : Identification → Bool
-ignoresReset i = eqb (i .receiver) receiving || eqb (i .receiver) spoiled || i .got
+ignoresReset i = eqb (i .receiver) receiving || eqb (i .receiver) spoiled || isOn (i .got)
 
 -- 3, a HARD_RESET
 unfoldable pub onHardReset : Identification → Stepped
@@ -135,11 +128,11 @@ onHardReset i = pick (ignoresReset i) (quiet i) (ends i resetReceived)
 
 -- the own frame is sent, which starts the timer unless the identify is got already
 abbrev pub sends : Identification → Identification
-sends i = stands i (pick (i .got) 0 mostTicks) (i .outcome) (i .got) true
+sends i = stands i (pick (isOn (i .got)) 0 mostTicks) (i .outcome) (i .got) on
 
 -- 5, the own frame is sent: later ones are ignored
 unfoldable pub onOwnFrameSent : Identification → Stepped
-onOwnFrameSent i = pick (i .sent) (quiet i) (exchanged (sends i))
+onOwnFrameSent i = pick (isOn (i .sent)) (quiet i) (exchanged (sends i))
 
 -- the timer has fallen to t
 abbrev pub falls : Identification → ℕ → Stepped

@@ -2,7 +2,7 @@
 // takes the frame apart, a timer runs from the own frame on, and there is one outcome.
 ghost use mathlib.Core.Path.{_≡_};
 ghost use Rattle.identify.specs.Contracts.{StartsFresh, TellsValid, Steps};
-ghost use Rattle.identify.specs.Step.{goes, reports, quiet, ends, exchanged, refused, onSoaf, counted, onDataDword, frameEnds, onEoaf, onHardReset, onOwnFrameSent, onTick, mostOf, knownOf, moveOf};
+ghost use Rattle.identify.specs.Step.{goes, reports, quiet, ends, exchanged, refused, onSoaf, typeAfter, counted, onDataDword, frameEnds, onEoaf, onHardReset, onOwnFrameSent, onTick, mostOf, knownOf, moveOf};
 
 // The receiver's states.
 pub const IDLE: u64 = 0;
@@ -31,15 +31,15 @@ pub const TICK: u64 = 6;
 pub const ENABLE: u64 = 7;
 
 // The reports; from COMPLETE on they are outcomes too.
-pub const NONE: u8 = 0;
+pub const NONE: u64 = 0;
 
-pub const FAILED: u8 = 1;
+pub const FAILED: u64 = 1;
 
-pub const COMPLETE: u8 = 2;
+pub const COMPLETE: u64 = 2;
 
-pub const TIMED_OUT: u8 = 3;
+pub const TIMED_OUT: u64 = 3;
 
-pub const RESET_RECEIVED: u8 = 4;
+pub const RESET_RECEIVED: u64 = 4;
 
 // A whole identify frame has this many data dwords.
 const FRAME_DWORDS: u64 = 8;
@@ -60,21 +60,24 @@ const MOST_DWORD: u64 = 4294967295;
 const MOST_TICKS: u64 = 1000;
 
 // What has come so far: the receiver with the data dwords counted in a frame and whether its type is
-// Identify, the identify frame got, the own frame sent, the timer and the outcome.
+// Identify, the identify frame got, the own frame sent, the timer and the outcome. `typed`, `got` and
+// `sent` are flags as numbers, so that `valid` can judge whatever a C caller hands in.
+#[repr(C)]
 pub struct Identification {
     pub receiver: u64,
     pub count: u64,
     pub timer: u64,
     pub outcome: u64,
-    pub typed: bool,
-    pub got: bool,
-    pub sent: bool,
+    pub typed: u64,
+    pub got: u64,
+    pub sent: u64,
 }
 
+#[repr(C)]
 pub struct Stepped {
     pub next: Identification,
-    pub report: u8,
-    pub refusal: u8,
+    pub report: u64,
+    pub refusal: u64,
 }
 
 // Idle, all else unset.
@@ -85,10 +88,10 @@ pub fn fresh() -> Identification
         receiver: IDLE,
         count: 0,
         timer: 0,
-        outcome: NONE as u64,
-        typed: false,
-        got: false,
-        sent: false,
+        outcome: NONE,
+        typed: table::OFF,
+        got: table::OFF,
+        sent: table::OFF,
     }
 }
 
@@ -96,35 +99,33 @@ pub fn fresh() -> Identification
 pub fn valid(i: Identification) -> bool
     ensures { λ r. ⌜ TellsValid i r ⌝ }
 {
-    let receiver = i.receiver;
-    let count = i.count;
-    let timer = i.timer;
-    let outcome = i.outcome;
-    let typed = i.typed;
-    let got = i.got;
-    let sent = i.sent;
-    let framed = receiver == RECEIVING;
+    let typed = i.typed == table::ON;
+    let got = i.got == table::ON;
+    let sent = i.sent == table::ON;
+    let framed = i.receiver == RECEIVING;
     let both = got & sent;
-    let none = outcome == NONE as u64;
-    let complete = outcome == COMPLETE as u64;
-    let timed_out = outcome == TIMED_OUT as u64;
-    let reset = outcome == RESET_RECEIVED as u64;
+    let none = i.outcome == NONE;
+    let complete = i.outcome == COMPLETE;
+    let timed_out = i.outcome == TIMED_OUT;
+    let reset = i.outcome == RESET_RECEIVED;
     let awaiting = sent & !got & none;
-    let receiver_right = receiver <= COMPLETED;
-    let count_right = (framed & (count <= FRAME_DWORDS)) | (!framed & (count == 0));
-    let typed_right = !typed | (framed & (1 <= count));
-    let got_right = !got | (receiver == COMPLETED);
-    let timer_right = (awaiting & ((1 <= timer) & (timer <= MOST_TICKS)))
-        | (!awaiting & (timer == 0));
+    let flags_right = (i.typed <= table::ON) & (i.got <= table::ON) & (i.sent <= table::ON);
+    let receiver_right = i.receiver <= COMPLETED;
+    let count_right = (framed & (i.count <= FRAME_DWORDS)) | (!framed & (i.count == 0));
+    let timer_right = (awaiting & ((1 <= i.timer) & (i.timer <= MOST_TICKS)))
+        | (!awaiting & (i.timer == 0));
+    let got_right = !got | (i.receiver == COMPLETED);
+    let typed_right = !typed | (framed & (1 <= i.count));
     let outcome_right = none | complete | timed_out | reset;
     let complete_right = (complete & both) | (!complete & !both);
     let timed_out_right = !timed_out | (sent & !got);
-    let reset_right = !reset | (!got & ((receiver == IDLE) | (receiver == COMPLETED)));
-    receiver_right
+    let reset_right = !reset | (!got & ((i.receiver == IDLE) | (i.receiver == COMPLETED)));
+    flags_right
+        & receiver_right
         & count_right
-        & typed_right
-        & got_right
         & timer_right
+        & got_right
+        & typed_right
         & outcome_right
         & complete_right
         & timed_out_right
@@ -132,7 +133,7 @@ pub fn valid(i: Identification) -> bool
 }
 
 // The receiver goes to a state, with dwords counted and the type Identify or not.
-fn goes(i: Identification, receiver: u64, count: u64, typed: bool) -> Identification
+fn goes(i: Identification, receiver: u64, count: u64, typed: u64) -> Identification
     ensures { λ r. ⌜ r ≡ goes i receiver count typed ⌝ }
 {
     let mut next = i;
@@ -142,7 +143,7 @@ fn goes(i: Identification, receiver: u64, count: u64, typed: bool) -> Identifica
     next
 }
 
-fn reports(next: Identification, report: u8) -> Stepped
+fn reports(next: Identification, report: u64) -> Stepped
     ensures { λ r. ⌜ r ≡ reports next report ⌝ }
 {
     Stepped {
@@ -159,12 +160,12 @@ fn quiet(next: Identification) -> Stepped
 }
 
 // An outcome stops the timer.
-fn ends(i: Identification, outcome: u8) -> Stepped
+fn ends(i: Identification, outcome: u64) -> Stepped
     ensures { λ r. ⌜ r ≡ ends i outcome ⌝ }
 {
     let mut next = i;
     next.timer = 0;
-    next.outcome = outcome as u64;
+    next.outcome = outcome;
     reports(next, outcome)
 }
 
@@ -172,7 +173,7 @@ fn ends(i: Identification, outcome: u8) -> Stepped
 fn exchanged(i: Identification) -> Stepped
     ensures { λ r. ⌜ r ≡ exchanged i ⌝ }
 {
-    let both = i.got & i.sent;
+    let both = (i.got == table::ON) & (i.sent == table::ON);
     if both {
         return ends(i, COMPLETE);
     }
@@ -180,7 +181,7 @@ fn exchanged(i: Identification) -> Stepped
 }
 
 // A refused step changes nothing.
-fn refused(i: Identification, refusal: u8) -> Stepped
+fn refused(i: Identification, refusal: u64) -> Stepped
     ensures { λ r. ⌜ r ≡ refused i refusal ⌝ }
 {
     Stepped {
@@ -195,7 +196,7 @@ fn on_soaf(i: Identification) -> Stepped
     ensures { λ r. ⌜ r ≡ onSoaf i ⌝ }
 {
     let receiver = i.receiver;
-    let begun = goes(i, RECEIVING, 0, false);
+    let begun = goes(i, RECEIVING, 0, table::OFF);
     match receiver {
         IDLE => quiet(begun),
         RECEIVING => reports(begun, FAILED),
@@ -204,26 +205,36 @@ fn on_soaf(i: Identification) -> Stepped
     }
 }
 
-// The first dword alone fixes the type, and a ninth is too many.
+// The first dword alone fixes the type.
+fn type_after(i: Identification, dword: u64) -> u64
+    ensures { λ r. ⌜ r ≡ typeAfter i dword ⌝ }
+{
+    let first = i.count == 0;
+    let identify = dword / TYPE_PLACE % TYPE_VALUES == IDENTIFY_TYPE;
+    if first {
+        if identify {
+            return table::ON;
+        }
+        return table::OFF;
+    }
+    i.typed
+}
+
+// A ninth dword is too many.
 fn counted(i: Identification, dword: u64) -> Stepped
     ensures { λ r. ⌜ r ≡ counted i dword ⌝ }
 {
-    let count = i.count;
-    if FRAME_DWORDS <= count {
-        return reports(goes(i, SPOILED, 0, false), FAILED);
+    if FRAME_DWORDS <= i.count {
+        return reports(goes(i, SPOILED, 0, table::OFF), FAILED);
     }
-    let first = count == 0;
-    let identify = dword / TYPE_PLACE % TYPE_VALUES == IDENTIFY_TYPE;
-    let typed = (first & identify) | (!first & i.typed);
-    quiet(goes(i, RECEIVING, count + 1, typed))
+    quiet(goes(i, RECEIVING, i.count + 1, type_after(i, dword)))
 }
 
 // Outside a frame data is none of ours.
 fn on_data_dword(i: Identification, dword: u64) -> Stepped
     ensures { λ r. ⌜ r ≡ onDataDword i dword ⌝ }
 {
-    let receiver = i.receiver;
-    if receiver == RECEIVING {
+    if i.receiver == RECEIVING {
         return counted(i, dword);
     }
     quiet(i)
@@ -233,11 +244,10 @@ fn on_data_dword(i: Identification, dword: u64) -> Stepped
 fn frame_ends(i: Identification, crc: u64) -> Stepped
     ensures { λ r. ⌜ r ≡ frameEnds i crc ⌝ }
 {
-    let count = i.count;
-    let whole = (count == FRAME_DWORDS) & i.typed & (crc == CRC_GOOD);
-    let mut next = goes(i, COMPLETED, 0, false);
+    let whole = (i.count == FRAME_DWORDS) & (i.typed == table::ON) & (crc == CRC_GOOD);
+    let mut next = goes(i, COMPLETED, 0, table::OFF);
     if whole {
-        next.got = true;
+        next.got = table::ON;
         return exchanged(next);
     }
     reports(next, FAILED)
@@ -250,7 +260,7 @@ fn on_eoaf(i: Identification, crc: u64) -> Stepped
     let receiver = i.receiver;
     match receiver {
         RECEIVING => frame_ends(i, crc),
-        SPOILED => quiet(goes(i, COMPLETED, 0, false)),
+        SPOILED => quiet(goes(i, COMPLETED, 0, table::OFF)),
         _ => quiet(i),
     }
 }
@@ -259,9 +269,7 @@ fn on_eoaf(i: Identification, crc: u64) -> Stepped
 fn on_hard_reset(i: Identification) -> Stepped
     ensures { λ r. ⌜ r ≡ onHardReset i ⌝ }
 {
-    let receiver = i.receiver;
-    let got = i.got;
-    let ignored = (receiver == RECEIVING) | (receiver == SPOILED) | got;
+    let ignored = (i.receiver == RECEIVING) | (i.receiver == SPOILED) | (i.got == table::ON);
     if ignored {
         return quiet(i);
     }
@@ -272,13 +280,13 @@ fn on_hard_reset(i: Identification) -> Stepped
 fn on_own_frame_sent(i: Identification) -> Stepped
     ensures { λ r. ⌜ r ≡ onOwnFrameSent i ⌝ }
 {
-    let got = i.got;
-    let sent = i.sent;
+    let got = i.got == table::ON;
+    let sent = i.sent == table::ON;
     if sent {
         return quiet(i);
     }
     let mut next = i;
-    next.sent = true;
+    next.sent = table::ON;
     if got {
         next.timer = 0;
         return exchanged(next);
@@ -291,11 +299,10 @@ fn on_own_frame_sent(i: Identification) -> Stepped
 fn on_tick(i: Identification) -> Stepped
     ensures { λ r. ⌜ r ≡ onTick i ⌝ }
 {
-    let timer = i.timer;
-    if timer == 0 {
+    if i.timer == 0 {
         return quiet(i);
     }
-    let left = timer - 1;
+    let left = i.timer - 1;
     if left == 0 {
         return ends(i, TIMED_OUT);
     }
@@ -326,9 +333,8 @@ fn known(event: u64, argument: u64) -> bool
 fn moved(i: Identification, event: u64, argument: u64) -> Stepped
     ensures { λ r. ⌜ r ≡ moveOf i event argument ⌝ }
 {
-    let outcome = i.outcome;
     // After an outcome only Enable does anything.
-    if (outcome != NONE as u64) & (event != ENABLE) {
+    if (i.outcome != NONE) & (event != ENABLE) {
         return quiet(i);
     }
     match event {

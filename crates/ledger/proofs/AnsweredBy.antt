@@ -11,11 +11,12 @@ use Rattle.table.proofs.Laws.{by-test, parts}
 use Rattle.event.specs.Table.{openOf}
 use Rattle.event.specs.declared.Event.{Event}
 use Rattle.event.specs.declared.Open.{Open}
-use Rattle.phy.specs.State.{validOf, freshPhy, noOpen}
+use Rattle.phy.specs.Shapes.{freshPhy, noOpen}
+use Rattle.phy.specs.State.{validOf}
 use Rattle.phy.specs.Step.{stepOf}
 use Rattle.phy.specs.declared.Phy.{Phy}
-use Rattle.laws.specs.Waiting.{isAnswer}
-use Rattle.laws.proofs.Steps.{fresh-valid, stays-valid}
+use Rattle.phy_laws.specs.Waiting.{isAnswer}
+use Rattle.phy_laws.proofs.Steps.{fresh-valid, stays-valid}
 use Rattle.ledger.specs.Log.{Entry, entry, log, after, accepted, answered, many, ticked, tickedInP2, heardAip}
 use Rattle.ledger.specs.Ledger.{due, Waiting, Ledger, free, waiting, broken, grown, sameOpen, begins, through, silent, answers, book, books}
 use Rattle.ledger.specs.Demand.{phyAfter, AnsweredBy}

@@ -5,11 +5,12 @@ use mathlib.Core.List.{List, [], _∷_}
 use mathlib.Core.Path.{_≡_, refl, sym, subst, _∙_}
 use native.Mathlib.Omega.{arith}
 use Rattle.event.specs.declared.Event.{Event}
-use Rattle.phy.specs.State.{validOf, freshPhy}
+use Rattle.phy.specs.Shapes.{freshPhy}
+use Rattle.phy.specs.State.{validOf}
 use Rattle.phy.specs.Step.{stepOf}
 use Rattle.phy.specs.declared.Phy.{Phy}
-use Rattle.laws.specs.Waiting.{waits}
-use Rattle.laws.proofs.Steps.{fresh-valid, stays-valid}
+use Rattle.phy_laws.specs.Waiting.{waits}
+use Rattle.phy_laws.proofs.Steps.{fresh-valid, stays-valid}
 use Rattle.ledger.specs.Log.{entry, log, after, accepted, answered, many}
 use Rattle.ledger.specs.Ledger.{due, Waiting, Ledger, free, waiting, broken, grown, book, books}
 use Rattle.ledger.specs.Demand.{oneIfWaiting, booksOf, phyAfter, Demand3}

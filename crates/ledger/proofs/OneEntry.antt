@@ -14,20 +14,21 @@ use Rattle.event.specs.Table.{openOf, knownOf}
 use Rattle.event.specs.declared.Event.{Event}
 use Rattle.event.specs.declared.Open.{Open}
 use Rattle.phy.specs.Names.{P2}
-use Rattle.phy.specs.State.{noOpen, validOf}
-use Rattle.phy.specs.Moves.{longer, refused}
+use Rattle.phy.specs.Shapes.{noOpen, refused}
+use Rattle.phy.specs.State.{validOf}
+use Rattle.phy.specs.Ticks.{longer}
 use Rattle.phy.specs.Step.{moveOf, stepOf}
 use Rattle.phy.specs.declared.Phy.{Phy}
 use Rattle.phy.specs.declared.Stepped.{Stepped}
-use Rattle.laws.specs.Waiting.{waits, isAnswer}
-use Rattle.laws.proofs.Counting.{accepts, heard, ticksOf, aipsOf, left}
-use Rattle.laws.specs.Laws.{Judged}
-use Rattle.laws.proofs.Refusals.{step-is-move, taken-exactly}
-use Rattle.laws.proofs.Shapes.{by-shape}
-use Rattle.laws.proofs.OneStep.{Stepping, wait-known, open-known, at-least-one}
-use Rattle.laws.proofs.InUse.{runs}
-use Rattle.laws.proofs.Steps.{by-way}
-use Rattle.laws.proofs.Answers.{by-tally}
+use Rattle.phy_laws.specs.Waiting.{waits, isAnswer}
+use Rattle.phy_laws.proofs.Counting.{accepts, heard, ticksOf, aipsOf, left}
+use Rattle.phy_laws.specs.Laws.{Judged}
+use Rattle.phy_laws.proofs.Refusals.{step-is-move, taken-exactly}
+use Rattle.phy_laws.proofs.Shapes.{by-shape}
+use Rattle.phy_laws.proofs.OneStep.{Stepping, wait-known, open-known, at-least-one}
+use Rattle.phy_laws.proofs.InUse.{runs}
+use Rattle.phy_laws.proofs.Steps.{by-way}
+use Rattle.phy_laws.proofs.Answers.{by-tally}
 use Rattle.ledger.specs.Log.{Entry, entry, taken, accepted, answered, ticked, tickedInP2, heardAip}
 use Rattle.ledger.specs.Demand.{oneIfWaiting}
 use Rattle.ledger.specs.Ledger.{due, Waiting, Ledger, free, waiting, broken, grown, sameOpen, begins, through, silent, book}

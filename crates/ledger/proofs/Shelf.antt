@@ -9,13 +9,13 @@ use lib.Dec.{eqb}
 use Rattle.table.proofs.Laws.{by-test, every}
 use Rattle.event.specs.Names.{hardReset, phyDisabled}
 use Rattle.event.specs.declared.Event.{Event}
-use Rattle.phy.specs.State.{freshPhy}
+use Rattle.phy.specs.Shapes.{freshPhy}
 use Rattle.phy.specs.Moves.{resetRows, onReset}
 use Rattle.phy.specs.Step.{moveOf, stepOf}
 use Rattle.phy.specs.declared.Phy.{Phy}
-use Rattle.laws.specs.Waiting.{waits}
-use Rattle.laws.proofs.Steps.{fresh-valid}
-use Rattle.laws.proofs.Refusals.{step-is-move, refused-keeps}
+use Rattle.phy_laws.specs.Waiting.{waits}
+use Rattle.phy_laws.proofs.Steps.{fresh-valid}
+use Rattle.phy_laws.proofs.Refusals.{step-is-move, refused-keeps}
 use Rattle.ledger.specs.Log.{Entry, entry, accepted, answered, many}
 use Rattle.ledger.specs.Ledger.{Ledger, free, waiting, broken, through, silent, answers, book, books}
 use Rattle.ledger.specs.Demand.{phyAfter, booksOf}

@@ -8,19 +8,22 @@ use native.Mathlib.Omega.{arith}
 use borrow.Author.Tests.{lt-leb, le-leb}
 use lib.ListN.{replicate, replicate-append-replicate}
 use Rattle.table.specs.Choice.{pick}
+use Rattle.table.specs.Flags.{off}
 use Rattle.event.specs.Names.{tick, aipReceived}
 use Rattle.event.specs.Table.{openOf, openKnown, knownOf, argumentsKnown, argumentRange}
 use Rattle.event.specs.declared.Event.{Event}
 use Rattle.event.specs.declared.Open.{Open}
 use Rattle.phy.specs.Names.{openTimeout, fullTimer}
-use Rattle.phy.specs.State.{validOf, freshPhy, requesting, validRequest, validInbound}
-use Rattle.phy.specs.Moves.{quiet, reports, longer, aged, tickRequesting, tickBreaking, onTickAged, onTick, onAip, toIdle, onTxOpen, openByLink}
+use Rattle.phy.specs.Shapes.{freshPhy, requesting, quiet, reports}
+use Rattle.phy.specs.State.{validOf, validRequest, validInbound}
+use Rattle.phy.specs.Moves.{onAip, toIdle, onTxOpen, openByLink}
+use Rattle.phy.specs.Ticks.{longer, aged, tickRequesting, tickBreaking, onTickAged, onTick}
 use Rattle.phy.specs.Step.{moveOf, stepOf}
 use Rattle.phy.specs.declared.Settings.{Settings}
 use Rattle.phy.specs.declared.Phy.{Phy}
 use Rattle.phy.specs.declared.Stepped.{Stepped}
-use Rattle.laws.specs.Waiting.{waits}
-use Rattle.laws.proofs.OneStep.{timed, longer-known}
+use Rattle.phy_laws.specs.Waiting.{waits}
+use Rattle.phy_laws.proofs.OneStep.{timed, longer-known}
 use Rattle.ledger.specs.Log.{entry, log, after, answered, many, ticked, heardAip}
 use Rattle.ledger.specs.Demand.{plain, openToFive, rounds, longWait, WaitsLong, Tight}
 
@@ -73,7 +76,7 @@ module _ (S : ℕ → Open → Phy) (g : Open → Open) (K : Open → Type 0) (k
 -- ---- the two kinds: a request in L1, and one given up in L5
 
 abbrev none : Settings
-none = record { accept = false }
+none = record { accept = off }
 
 abbrev asking : ℕ → Open → Phy
 asking t o = requesting none 1 2 t o 0

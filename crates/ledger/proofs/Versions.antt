@@ -2,7 +2,8 @@
 use mathlib.Core.Path.{refl}
 use native.Mathlib.Omega.{arith}
 use Rattle.event.specs.Table.{openOf}
-use Rattle.phy.specs.Moves.{toIdle, openByLink, onTxOpen, longer, aged, tickRequesting, tickBreaking, onTickAged, onTick}
+use Rattle.phy.specs.Moves.{toIdle, openByLink, onTxOpen}
+use Rattle.phy.specs.Ticks.{longer, aged, tickRequesting, tickBreaking, onTickAged, onTick}
 use Rattle.phy.specs.Step.{moveOf}
 use Rattle.ledger.specs.Ledger.{book}
 use Rattle.ledger.specs.Demand.{openToFive}

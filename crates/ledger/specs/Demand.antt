@@ -9,10 +9,10 @@ use Rattle.event.specs.Names.{txOpen, aipReceived, tick, SSP, slowRate}
 use Rattle.event.specs.Table.{openOf}
 use Rattle.event.specs.declared.Event.{Event}
 use Rattle.event.specs.declared.Open.{Open}
-use Rattle.phy.specs.State.{freshPhy}
+use Rattle.phy.specs.Shapes.{freshPhy}
 use Rattle.phy.specs.Step.{stepOf}
 use Rattle.phy.specs.declared.Phy.{Phy}
-use Rattle.laws.specs.Waiting.{waits, isAnswer}
+use Rattle.phy_laws.specs.Waiting.{waits, isAnswer}
 use Rattle.ledger.specs.Log.{Entry, entry, log, after, accepted, answered, many, ticked, tickedInP2, heardAip}
 use Rattle.ledger.specs.Ledger.{due, Waiting, Ledger, free, waiting, broken, grown, books}
 

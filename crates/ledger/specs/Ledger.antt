@@ -7,8 +7,8 @@ use Rattle.table.specs.Choice.{pick}
 use Rattle.event.specs.Names.{mostWait}
 use Rattle.event.specs.Table.{openOf}
 use Rattle.event.specs.declared.Open.{Open}
-use Rattle.phy.specs.State.{noOpen}
-use Rattle.laws.specs.Waiting.{isAnswer}
+use Rattle.phy.specs.Shapes.{noOpen}
+use Rattle.phy_laws.specs.Waiting.{isAnswer}
 use Rattle.ledger.specs.Log.{Entry, accepted, answered, ticked, tickedInP2, heardAip}
 
 -- the ticks by which an Open is answered, if k AIPs are heard

@@ -9,8 +9,8 @@ use Rattle.table.specs.Choice.{pick}
 use Rattle.event.specs.Names.{breakReceived, tick}
 use Rattle.event.specs.declared.Event.{Event}
 use Rattle.phy.specs.Names.{L0, L1, L5, P2, P4, openTimeout, BREAK, fullTimer}
-use Rattle.phy.specs.State.{requesting, freshPhy}
-use Rattle.phy.specs.Moves.{reports, answers, longer}
+use Rattle.phy.specs.Shapes.{requesting, freshPhy, reports, answers}
+use Rattle.phy.specs.Ticks.{longer}
 use Rattle.phy.specs.Step.{moveOf}
 use Rattle.phy.specs.declared.Phy.{Phy}
 use Rattle.phy.specs.declared.Stepped.{Stepped}

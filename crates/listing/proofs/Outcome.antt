@@ -15,7 +15,7 @@ use Rattle.trace.specs.Reading as reading
 use Rattle.trace.specs.Laws.{ReadsAll}
 use Rattle.trace.specs.Laws as trace
 use Rattle.phy.specs.Step.{stepOf}
-use Rattle.phy.specs.State.{freshPhy}
+use Rattle.phy.specs.Shapes.{freshPhy}
 use Rattle.phy.specs.declared.Phy.{Phy}
 use Rattle.listing.specs.Listing.{mostTrace, lineOf, oneMore, afterReading, lineAt}
 use Rattle.listing.specs.Lines.{headerLine, tooLongLine}

@@ -13,7 +13,7 @@ use Rattle.trace.specs.Reading as reading
 use Rattle.trace.specs.Laws.{MovesOn}
 use Rattle.trace.proofs.Accepted.{read-moves-on}
 use Rattle.phy.specs.Step.{stepOf}
-use Rattle.phy.specs.State.{freshPhy}
+use Rattle.phy.specs.Shapes.{freshPhy}
 use Rattle.phy.specs.declared.Phy.{Phy}
 use Rattle.listing.specs.Listing.{mostTrace, ListsFrom, ended, stopped, taken, Lists, listed, tooLong, Next, lineOf, noLine, startOf, oneMore, afterReading, lineAt}
 use Rattle.listing.specs.Lines.{headerLine, eventLine}

@@ -8,7 +8,7 @@ use lib.ListN.{length}
 use Rattle.table.specs.Choice.{pick}
 use Rattle.event.specs.declared.Event.{Event}
 use Rattle.trace.specs.Reading.{Told, event, end, refused, readEvent}
-use Rattle.phy.specs.State.{freshPhy}
+use Rattle.phy.specs.Shapes.{freshPhy}
 use Rattle.phy.specs.Step.{stepOf}
 use Rattle.phy.specs.declared.Phy.{Phy}
 use Rattle.listing.specs.Lines.{headerLine, eventLine, endLine, stopLine, tooLongLine}

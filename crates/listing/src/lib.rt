@@ -64,7 +64,7 @@ fn put_line(text: Text, next: Progress, out: &mut [u8], at: usize) -> LineWritte
 }
 
 // The line of a fault, after which nothing comes.
-fn put_stop(place: usize, refusal: u8, out: &mut [u8], at: usize) -> LineWritten
+fn put_stop(place: usize, refusal: u64, out: &mut [u8], at: usize) -> LineWritten
     ensures { λ r. ⌜ PutsLine (lineOf (stopLine place refusal) (Progress·Done false)) (now (out .entry)) at r (now (out .exit)) ⌝ }
 {
     let stopped = Progress::Done { whole: false };

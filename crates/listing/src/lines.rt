@@ -25,10 +25,10 @@ pub fn event_line(place: usize, event: Event, stepped: Stepped) -> Text
     let after = stepped.next;
     let to_place = with_number(empty(), place as u64, b' ');
     let to_event = with_number(to_place, event.code, b' ');
-    let to_refusal = with_number(to_event, stepped.refusal as u64, b' ');
+    let to_refusal = with_number(to_event, stepped.refusal, b' ');
     let to_answer = with_number(to_refusal, stepped.answer, b' ');
-    let to_notice = with_number(to_answer, stepped.notice as u64, b' ');
-    let to_sent = with_number(to_notice, stepped.sent as u64, b' ');
+    let to_notice = with_number(to_answer, stepped.notice, b' ');
+    let to_sent = with_number(to_notice, stepped.sent, b' ');
     let to_link = with_number(to_sent, after.link, b' ');
     with_number(to_link, after.port, b'\n')
 }
@@ -42,11 +42,11 @@ pub fn end_line(place: usize, count: u64) -> Text
 }
 
 // A fault of the trace, at the first byte of the event that it spoils.
-pub fn stop_line(place: usize, refusal: u8) -> Text
+pub fn stop_line(place: usize, refusal: u64) -> Text
     ensures { λ r. ⌜ Holds r (stopLine place refusal) ⌝ }
 {
     let to_place = with_number(with_part(empty(), b"stop "), place as u64, b' ');
-    with_number(with_part(to_place, b"refusal "), refusal as u64, b'\n')
+    with_number(with_part(to_place, b"refusal "), refusal, b'\n')
 }
 
 // All that is said of a trace that is too long.

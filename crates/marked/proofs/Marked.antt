@@ -7,7 +7,8 @@ use Rattle.dws.specs.Step.{afterInvalid, afterValid, afterPrimitive, nextState,
 use Rattle.dws.specs.Step as dws
 use Rattle.event.specs.Table.{argumentRange, argumentsKnown, knownOf, openKnown}
 use Rattle.phy.specs.State.{validRequest, validInbound, validOf}
-use Rattle.phy.specs.Moves.{toIdle, openByLink, onTxOpen, onCancelOpen, onAccept, onOpenReceived, onAip, onBreak, longer, aged, tickRequesting, tickBreaking, openedBy, accepted, tickSelected, onTickAged, onTick}
+use Rattle.phy.specs.Moves.{toIdle, openByLink, onTxOpen, onCancelOpen, onAccept, onOpenReceived, onAip, onBreak}
+use Rattle.phy.specs.Ticks.{longer, aged, tickRequesting, tickBreaking, openedBy, accepted, tickSelected, onTickAged, onTick}
 use Rattle.phy.specs.Step.{moveOf, stepOf}
 use Rattle.marked.specs.Marked.{answersTo, answersTimed, refusalsTo, Case, M1, M2, M3, M4, M5, M6, M7, M8, M9, M10, M11, M12, AllMarked}
 

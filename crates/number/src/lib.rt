@@ -1,6 +1,5 @@
 // Numbers of a trace: groups of seven bits, lowest first, the high bit set if another follows.
 // Reading takes the one shortest form alone; writing gives it.
-ghost use mathlib.Core.Path.{_≡_};
 ghost use Rattle.number.specs.Contracts.{Fewer, EndsNumber, ReadsNumber, CountsBytes, WritesNumber};
 
 // A group's weight against the one before it; as a byte, the high bit, set where another follows.

@@ -2,7 +2,8 @@
 use mathlib.Core.Bool.{Bool}
 use mathlib.Core.Path.{_≡_}
 use Rattle.event.specs.declared.Event.{Event}
-use Rattle.phy.specs.State.{freshPhy, validOf}
+use Rattle.phy.specs.Shapes.{freshPhy}
+use Rattle.phy.specs.State.{validOf}
 use Rattle.phy.specs.Step.{moveOf, stepOf}
 use Rattle.phy.specs.declared.Phy.{Phy}
 use Rattle.phy.specs.declared.Stepped.{Stepped}

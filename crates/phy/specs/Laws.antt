@@ -1,4 +1,4 @@
--- What is promised of a phy beyond the contracts: each determines its result. Each statement is proved in proofs/Determined under its own name; what holds of every step stands in the crate `laws`.
+-- What is promised of a phy beyond the contracts: each determines its result. Each statement is proved in proofs/Determined under its own name; what holds of every step stands in the crate `phy_laws`.
 use mathlib.Core.Bool.{Bool}
 use mathlib.Core.Path.{_≡_}
 use Rattle.event.specs.declared.Event.{Event}

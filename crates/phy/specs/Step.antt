@@ -1,12 +1,14 @@
 -- One step: the phy is judged first, then the event, then its table is asked.
-use mathlib.Core.Bool.{true, false}
 use mathlib.Core.List.{List, [], _∷_}
 use Rattle.table.specs.Choice.{pick, Row, _⇒_, rows}
+use Rattle.table.specs.Flags.{on, off}
 use Rattle.table.specs.Refusals.{badState, badEvent}
 use Rattle.event.specs.Names.{txOpen, cancelOpen, closeConnection, smpTransmitBreak, acceptOpens, rejectOpens, openReceived, openAcceptReceived, openRejectReceived, aipReceived, breakReceived, closeReceived, tick, hardReset, phyDisabled}
 use Rattle.event.specs.Table.{knownOf}
+use Rattle.phy.specs.Shapes.{quiet, refused}
 use Rattle.phy.specs.State.{validOf}
-use Rattle.phy.specs.Moves.{quiet, refused, onTxOpen, onCancelOpen, onCloseConnection, onSmpBreak, onAccept, onOpenReceived, onOpenAccept, onOpenReject, onAip, onBreak, onClose, onTick, onReset}
+use Rattle.phy.specs.Moves.{onTxOpen, onCancelOpen, onCloseConnection, onSmpBreak, onAccept, onOpenReceived, onOpenAccept, onOpenReject, onAip, onBreak, onClose, onReset}
+use Rattle.phy.specs.Ticks.{onTick}
 use Rattle.event.specs.declared.Event.{Event}
 use Rattle.phy.specs.declared.Phy.{Phy}
 use Rattle.phy.specs.declared.Stepped.{Stepped}
@@ -18,8 +20,8 @@ moveRows p e =
     ∷ (cancelOpen ⇒ onCancelOpen p)
     ∷ (closeConnection ⇒ onCloseConnection p)
     ∷ (smpTransmitBreak ⇒ onSmpBreak p)
-    ∷ (acceptOpens ⇒ onAccept p true)
-    ∷ (rejectOpens ⇒ onAccept p false)
+    ∷ (acceptOpens ⇒ onAccept p on)
+    ∷ (rejectOpens ⇒ onAccept p off)
     ∷ (openReceived ⇒ onOpenReceived p e)
     ∷ (openAcceptReceived ⇒ onOpenAccept p)
     ∷ (openRejectReceived ⇒ onOpenReject p e)

@@ -5,7 +5,6 @@ mod shapes;
 mod state;
 mod ticks;
 
-ghost use mathlib.Core.Path.{_≡_};
 ghost use Rattle.phy.specs.Contracts.{Moves, Steps};
 use event::ACCEPT_OPENS;
 use event::AIP_RECEIVED;
@@ -27,13 +26,16 @@ use event::TX_OPEN;
 pub use state::fresh;
 pub use state::valid;
 
-// What outlives every move but a reset.
+// What outlives every move but a reset: flags.
+#[repr(C)]
 pub struct Settings {
-    pub accept: bool,
+    pub accept: u64,
 }
 
 // Numbers of any size may stand here: `valid` tells which records are states. `inbound` and `connection`
-// are the protocols of the far end's OPEN and of the connection; `closed` says that the far end has closed.
+// are the protocols of the far end's OPEN and of the connection; `closed` is a flag, that the far end has
+// closed.
+#[repr(C)]
 pub struct Phy {
     pub link: u64,
     pub port: u64,
@@ -43,19 +45,20 @@ pub struct Phy {
     pub source: u64,
     pub inbound: u64,
     pub connection: u64,
-    pub closed: bool,
+    pub closed: u64,
     pub settings: Settings,
 }
 
 // What a step gives: the phy, an answer with the arguments of its Open, a notice, a primitive sent and
 // the number of a refusal, each 0 where there is none.
+#[repr(C)]
 pub struct Stepped {
     pub next: Phy,
     pub answered: Open,
     pub answer: u64,
-    pub notice: u8,
-    pub sent: u8,
-    pub refusal: u8,
+    pub notice: u64,
+    pub sent: u64,
+    pub refusal: u64,
 }
 
 // The move of an event, for whoever knows that the phy is valid and the event known.
@@ -69,8 +72,8 @@ pub fn moved(phy: Phy, event: Event) -> Stepped
         CANCEL_OPEN => moves::on_cancel_open(phy),
         CLOSE_CONNECTION => moves::on_close_connection(phy),
         SMP_TRANSMIT_BREAK => moves::on_smp_break(phy),
-        ACCEPT_OPENS => moves::on_accept(phy, true),
-        REJECT_OPENS => moves::on_accept(phy, false),
+        ACCEPT_OPENS => moves::on_accept(phy, table::ON),
+        REJECT_OPENS => moves::on_accept(phy, table::OFF),
         OPEN_RECEIVED => moves::on_open_received(phy, event),
         OPEN_ACCEPT_RECEIVED => moves::on_open_accept(phy),
         OPEN_REJECT_RECEIVED => moves::on_open_reject(phy, event),

@@ -14,6 +14,7 @@ use crate::names::CLOSED_NORMAL;
 use crate::names::CLOSED_RESET;
 use crate::names::CLOSED_TO_IDLE;
 use crate::names::COLLIDED;
+use crate::names::CONNECTION_OPENED;
 use crate::names::FULL_TIMER;
 use crate::names::L0;
 use crate::names::L1;
@@ -38,32 +39,36 @@ use crate::names::RETRY;
 use crate::names::STP_BUSY;
 use crate::names::TERMINATED;
 use crate::names::WRONG_DESTINATION;
-use crate::shapes::answers_connected;
-use crate::shapes::answers_idle;
-use crate::shapes::closed_by_far_end;
-use crate::shapes::connects;
+use crate::shapes::FRESH;
+use crate::shapes::answers;
+use crate::shapes::connected;
+use crate::shapes::idle;
 use crate::shapes::quiet;
 use crate::shapes::refused;
-use crate::shapes::requests;
-use crate::shapes::rests;
-use crate::shapes::selects;
+use crate::shapes::reports;
+use crate::shapes::requesting;
+use crate::shapes::selected;
+use crate::shapes::with_settings;
+use crate::shapes::with_timer;
 use event::Event;
 use event::Open;
 use event::SMP;
 use event::open_of;
+use table::OFF;
+use table::ON;
 
 // Entering L0: a request that waits is answered, with the reason where one was kept; a connection is over.
-pub fn to_idle(p: Phy, sent: u8) -> Stepped
+pub fn to_idle(p: Phy, sent: u64) -> Stepped
     ensures { λ r. ⌜ r ≡ toIdle p sent ⌝ }
 {
     let port = p.port;
     let settings = p.settings;
     let request = p.request;
     match port {
-        P2 => answers_idle(settings, COLLIDED, request, sent),
-        P4 => answers_idle(settings, p.reason, request, sent),
-        P3 => rests(settings, CLOSED_TO_IDLE, sent),
-        _ => rests(settings, 0, sent),
+        P2 => answers(idle(settings), COLLIDED, request, 0, sent),
+        P4 => answers(idle(settings), p.reason, request, 0, sent),
+        P3 => reports(idle(settings), CLOSED_TO_IDLE, sent),
+        _ => reports(idle(settings), 0, sent),
     }
 }
 
@@ -73,9 +78,9 @@ fn open_by_link(p: Phy, o: Open) -> Stepped
     let link = p.link;
     let settings = p.settings;
     match link {
-        L0 => requests(settings, L1, P2, FULL_TIMER, o, 0, OPEN),
-        L2 => selects(settings, P2, o, p.source, p.inbound),
-        L6 => requests(settings, L6, P2, 0, o, 0, 0),
+        L0 => reports(requesting(settings, L1, P2, FULL_TIMER, o, 0), 0, OPEN),
+        L2 => reports(selected(settings, P2, o, p.source, p.inbound), 0, 0),
+        L6 => reports(requesting(settings, L6, P2, 0, o, 0), 0, 0),
         _ => quiet(p),
     }
 }
@@ -98,13 +103,9 @@ pub fn on_cancel_open(p: Phy) -> Stepped
     let request = p.request;
     if p.port == P2 {
         return match link {
-            L1 => requests(
-                settings,
-                L5,
-                P4,
-                FULL_TIMER,
-                request,
-                PORT_LAYER_REQUEST,
+            L1 => reports(
+                requesting(settings, L5, P4, FULL_TIMER, request, PORT_LAYER_REQUEST),
+                0,
                 BREAK,
             ),
             _ => quiet(p),
@@ -118,10 +119,14 @@ pub fn on_close_connection(p: Phy) -> Stepped
 {
     let settings = p.settings;
     if p.link == L3 {
-        if p.closed {
-            return rests(settings, CLOSED_NORMAL, CLOSE);
+        if p.closed == ON {
+            return reports(idle(settings), CLOSED_NORMAL, CLOSE);
         }
-        return connects(settings, L4, FULL_TIMER, p.connection, 0, CLOSE);
+        return reports(
+            connected(settings, L4, FULL_TIMER, p.connection, OFF),
+            0,
+            CLOSE,
+        );
     }
     refused(p, table::NOT_CONNECTED)
 }
@@ -133,11 +138,8 @@ pub fn on_smp_break(p: Phy) -> Stepped
     let connection = p.connection;
     if p.link == L3 {
         if connection == SMP {
-            return connects(
-                settings,
-                L5,
-                FULL_TIMER,
-                connection,
+            return reports(
+                connected(settings, L5, FULL_TIMER, connection, OFF),
                 CLOSED_BREAK_REQUESTED,
                 BREAK,
             );
@@ -147,13 +149,10 @@ pub fn on_smp_break(p: Phy) -> Stepped
     refused(p, table::NOT_CONNECTED)
 }
 
-pub fn on_accept(p: Phy, accept: bool) -> Stepped
+pub fn on_accept(p: Phy, accept: u64) -> Stepped
     ensures { λ r. ⌜ r ≡ onAccept p accept ⌝ }
 {
-    let settings = Settings { accept };
-    let mut next = p;
-    next.settings = settings;
-    quiet(next)
+    quiet(with_settings(p, Settings { accept }))
 }
 
 // An OPEN that is reported in L1 outranks ours: the chip has arbitrated, so there is nothing to compare.
@@ -164,8 +163,8 @@ pub fn on_open_received(p: Phy, e: Event) -> Stepped
     let settings = p.settings;
     let request = p.request;
     match link {
-        L0 => selects(settings, p.port, request, e.first, e.second),
-        L1 => selects(settings, p.port, request, e.first, e.second),
+        L0 => quiet(selected(settings, p.port, request, e.first, e.second)),
+        L1 => quiet(selected(settings, p.port, request, e.first, e.second)),
         _ => quiet(p),
     }
 }
@@ -177,7 +176,13 @@ pub fn on_open_accept(p: Phy) -> Stepped
     let settings = p.settings;
     let request = p.request;
     match link {
-        L1 => answers_connected(settings, request.protocol, OPENED, request, 0),
+        L1 => answers(
+            connected(settings, L3, 0, request.protocol, OFF),
+            OPENED,
+            request,
+            CONNECTION_OPENED,
+            0,
+        ),
         _ => quiet(p),
     }
 }
@@ -206,7 +211,7 @@ pub fn on_open_reject(p: Phy, e: Event) -> Stepped
     let settings = p.settings;
     let request = p.request;
     match link {
-        L1 => answers_idle(settings, reject_answer(e.first), request, 0),
+        L1 => answers(idle(settings), reject_answer(e.first), request, 0, 0),
         L5 => to_idle(p, 0),
         _ => quiet(p),
     }
@@ -217,10 +222,8 @@ pub fn on_aip(p: Phy) -> Stepped
     ensures { λ r. ⌜ r ≡ onAip p ⌝ }
 {
     let link = p.link;
-    let mut next = p;
-    next.timer = FULL_TIMER;
     match link {
-        L1 => quiet(next),
+        L1 => quiet(with_timer(p, FULL_TIMER)),
         _ => quiet(p),
     }
 }
@@ -232,10 +235,22 @@ pub fn on_break(p: Phy) -> Stepped
     let settings = p.settings;
     let request = p.request;
     match link {
-        L1 => requests(settings, L6, P4, 0, request, OPEN_BROKEN, BREAK),
-        L2 => requests(settings, L6, p.port, 0, request, 0, BREAK),
-        L3 => connects(settings, L6, 0, p.connection, CLOSED_BREAK_RECEIVED, BREAK),
-        L4 => connects(settings, L6, 0, p.connection, CLOSED_BREAK_RECEIVED, BREAK),
+        L1 => reports(
+            requesting(settings, L6, P4, 0, request, OPEN_BROKEN),
+            0,
+            BREAK,
+        ),
+        L2 => reports(requesting(settings, L6, p.port, 0, request, 0), 0, BREAK),
+        L3 => reports(
+            connected(settings, L6, 0, p.connection, OFF),
+            CLOSED_BREAK_RECEIVED,
+            BREAK,
+        ),
+        L4 => reports(
+            connected(settings, L6, 0, p.connection, OFF),
+            CLOSED_BREAK_RECEIVED,
+            BREAK,
+        ),
         L5 => to_idle(p, 0),
         _ => quiet(p),
     }
@@ -247,8 +262,8 @@ pub fn on_close(p: Phy) -> Stepped
     let link = p.link;
     let settings = p.settings;
     match link {
-        L3 => closed_by_far_end(settings, p.connection),
-        L4 => rests(settings, CLOSED_NORMAL, 0),
+        L3 => quiet(connected(settings, L3, 0, p.connection, ON)),
+        L4 => reports(idle(settings), CLOSED_NORMAL, 0),
         _ => quiet(p),
     }
 }
@@ -259,11 +274,10 @@ pub fn on_reset(p: Phy) -> Stepped
 {
     let port = p.port;
     let request = p.request;
-    let settings = Settings { accept: false };
     match port {
-        P2 => answers_idle(settings, TERMINATED, request, 0),
-        P4 => answers_idle(settings, TERMINATED, request, 0),
-        P3 => rests(settings, CLOSED_RESET, 0),
-        _ => rests(settings, 0, 0),
+        P2 => answers(FRESH, TERMINATED, request, 0, 0),
+        P4 => answers(FRESH, TERMINATED, request, 0, 0),
+        P3 => reports(FRESH, CLOSED_RESET, 0),
+        _ => quiet(FRESH),
     }
 }

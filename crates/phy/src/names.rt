@@ -60,30 +60,30 @@ pub const PORT_LAYER_REQUEST: u64 = 71;
 pub const TERMINATED: u64 = 80;
 
 // Notices: a connection opened, and how one closed.
-pub const CONNECTION_OPENED: u8 = 1;
+pub const CONNECTION_OPENED: u64 = 1;
 
-pub const CLOSED_NORMAL: u8 = 2;
+pub const CLOSED_NORMAL: u64 = 2;
 
-pub const CLOSED_TIMEOUT: u8 = 3;
+pub const CLOSED_TIMEOUT: u64 = 3;
 
-pub const CLOSED_BREAK_REQUESTED: u8 = 4;
+pub const CLOSED_BREAK_REQUESTED: u64 = 4;
 
-pub const CLOSED_BREAK_RECEIVED: u8 = 5;
+pub const CLOSED_BREAK_RECEIVED: u64 = 5;
 
-pub const CLOSED_TO_IDLE: u8 = 6;
+pub const CLOSED_TO_IDLE: u64 = 6;
 
-pub const CLOSED_RESET: u8 = 7;
+pub const CLOSED_RESET: u64 = 7;
 
 // Primitives and frames sent.
-pub const OPEN: u8 = 1;
+pub const OPEN: u64 = 1;
 
-pub const OPEN_ACCEPT: u8 = 2;
+pub const OPEN_ACCEPT: u64 = 2;
 
-pub const OPEN_REJECT: u8 = 3;
+pub const OPEN_REJECT: u64 = 3;
 
-pub const CLOSE: u8 = 4;
+pub const CLOSE: u64 = 4;
 
-pub const BREAK: u8 = 5;
+pub const BREAK: u64 = 5;
 
 // Limits.
 pub const FULL_TIMER: u64 = 1000;

@@ -1,51 +1,49 @@
-// Where a move leads: a shape of the phy with its reports. What is in use is given, all else is zero.
-ghost use mathlib.Core.Bool.{true, false};
+// The words in which moves are written: shapes of a phy, where what is in use is given and all else is
+// zero, and what a step reports with it.
 ghost use mathlib.Core.Path.{_≡_};
-ghost use Rattle.phy.specs.Names.{L3 as Names·L3, connectionOpened};
-ghost use Rattle.phy.specs.State.{requesting, idle, selected, connected};
-ghost use Rattle.phy.specs.Moves.{reports, answers, quiet as Moves·quiet, refused as Moves·refused};
+ghost use Rattle.phy.specs.Shapes.{requesting as Shapes·requesting, idle as Shapes·idle, selected as Shapes·selected, connected as Shapes·connected, withTimer, withRequest, withSettings, reports as Shapes·reports, answers as Shapes·answers, quiet as Shapes·quiet, refused as Shapes·refused};
 use crate::Phy;
 use crate::Settings;
 use crate::Stepped;
-use crate::names::CONNECTION_OPENED;
+use crate::names::L0;
 use crate::names::L2;
-use crate::names::L3;
+use crate::names::P1;
 use crate::names::P3;
-use crate::state::FRESH;
-use crate::state::NO_OPEN;
 use event::Open;
+use table::OFF;
 
-// As a refusal with the number 0, which is none.
-pub fn quiet(p: Phy) -> Stepped
-    ensures { λ r. ⌜ r ≡ Moves·quiet p ⌝ }
-{
-    refused(p, 0)
-}
+const NO_OPEN: Open = Open {
+    destination: 0,
+    protocol: 0,
+    rate: 0,
+    tag: 0,
+    blocked: 0,
+    wait: 0,
+};
 
-pub fn refused(p: Phy, refusal: u8) -> Stepped
-    ensures { λ r. ⌜ r ≡ Moves·refused p refusal ⌝ }
-{
-    Stepped {
-        next: p,
-        answered: NO_OPEN,
-        answer: 0,
-        notice: 0,
-        sent: 0,
-        refusal,
-    }
-}
+pub const FRESH: Phy = Phy {
+    link: L0,
+    port: P1,
+    timer: 0,
+    request: NO_OPEN,
+    reason: 0,
+    source: 0,
+    inbound: 0,
+    connection: 0,
+    closed: OFF,
+    settings: Settings { accept: OFF },
+};
 
-// A request, or none, with no connection and no OPEN from the far end; a primitive may be sent.
-pub fn requests(
+// A request, or none, with no connection and no OPEN from the far end.
+pub fn requesting(
     settings: Settings,
     link: u64,
     port: u64,
     timer: u64,
     request: Open,
     reason: u64,
-    sent: u8,
-) -> Stepped
-    ensures { λ r. ⌜ r ≡ reports (requesting settings link port timer request reason) 0 sent ⌝ }
+) -> Phy
+    ensures { λ r. ⌜ r ≡ Shapes·requesting settings link port timer request reason ⌝ }
 {
     let mut next = FRESH;
     next.settings = settings;
@@ -54,19 +52,20 @@ pub fn requests(
     next.timer = timer;
     next.request = request;
     next.reason = reason;
-    Stepped {
-        next,
-        answered: NO_OPEN,
-        answer: 0,
-        notice: 0,
-        sent,
-        refusal: 0,
-    }
+    next
+}
+
+pub fn idle(settings: Settings) -> Phy
+    ensures { λ r. ⌜ r ≡ Shapes·idle settings ⌝ }
+{
+    let mut next = FRESH;
+    next.settings = settings;
+    next
 }
 
 // An OPEN from the far end, with a request that waits or none.
-pub fn selects(settings: Settings, port: u64, request: Open, source: u64, inbound: u64) -> Stepped
-    ensures { λ r. ⌜ r ≡ Moves·quiet (selected settings port request source inbound) ⌝ }
+pub fn selected(settings: Settings, port: u64, request: Open, source: u64, inbound: u64) -> Phy
+    ensures { λ r. ⌜ r ≡ Shapes·selected settings port request source inbound ⌝ }
 {
     let mut next = FRESH;
     next.settings = settings;
@@ -75,26 +74,11 @@ pub fn selects(settings: Settings, port: u64, request: Open, source: u64, inboun
     next.request = request;
     next.source = source;
     next.inbound = inbound;
-    Stepped {
-        next,
-        answered: NO_OPEN,
-        answer: 0,
-        notice: 0,
-        sent: 0,
-        refusal: 0,
-    }
+    next
 }
 
-// A connection, not yet closed by the far end.
-pub fn connects(
-    settings: Settings,
-    link: u64,
-    timer: u64,
-    connection: u64,
-    notice: u8,
-    sent: u8,
-) -> Stepped
-    ensures { λ r. ⌜ r ≡ reports (connected settings link timer connection false) notice sent ⌝ }
+pub fn connected(settings: Settings, link: u64, timer: u64, connection: u64, closed: u64) -> Phy
+    ensures { λ r. ⌜ r ≡ Shapes·connected settings link timer connection closed ⌝ }
 {
     let mut next = FRESH;
     next.settings = settings;
@@ -102,6 +86,37 @@ pub fn connects(
     next.port = P3;
     next.timer = timer;
     next.connection = connection;
+    next.closed = closed;
+    next
+}
+
+pub fn with_timer(p: Phy, timer: u64) -> Phy
+    ensures { λ r. ⌜ r ≡ withTimer p timer ⌝ }
+{
+    let mut next = p;
+    next.timer = timer;
+    next
+}
+
+pub fn with_request(p: Phy, request: Open) -> Phy
+    ensures { λ r. ⌜ r ≡ withRequest p request ⌝ }
+{
+    let mut next = p;
+    next.request = request;
+    next
+}
+
+pub fn with_settings(p: Phy, settings: Settings) -> Phy
+    ensures { λ r. ⌜ r ≡ withSettings p settings ⌝ }
+{
+    let mut next = p;
+    next.settings = settings;
+    next
+}
+
+pub fn reports(next: Phy, notice: u64, sent: u64) -> Stepped
+    ensures { λ r. ⌜ r ≡ Shapes·reports next notice sent ⌝ }
+{
     Stepped {
         next,
         answered: NO_OPEN,
@@ -112,71 +127,35 @@ pub fn connects(
     }
 }
 
-pub fn closed_by_far_end(settings: Settings, connection: u64) -> Stepped
-    ensures { λ r. ⌜ r ≡ Moves·quiet (connected settings Names·L3 0 connection true) ⌝ }
+// With the arguments of the Open that is answered.
+pub fn answers(next: Phy, answer: u64, request: Open, notice: u64, sent: u64) -> Stepped
+    ensures { λ r. ⌜ r ≡ Shapes·answers next answer request notice sent ⌝ }
 {
-    let mut next = FRESH;
-    next.settings = settings;
-    next.link = L3;
-    next.port = P3;
-    next.connection = connection;
-    next.closed = true;
-    quiet(next)
-}
-
-// A connection that is the answer to a request.
-pub fn answers_connected(
-    settings: Settings,
-    connection: u64,
-    answer: u64,
-    request: Open,
-    sent: u8,
-) -> Stepped
-    ensures { λ r. ⌜ r ≡ answers (connected settings Names·L3 0 connection false) answer request connectionOpened sent ⌝ }
-{
-    let mut next = FRESH;
-    next.settings = settings;
-    next.link = L3;
-    next.port = P3;
-    next.connection = connection;
     Stepped {
         next,
         answered: request,
         answer,
-        notice: CONNECTION_OPENED,
-        sent,
-        refusal: 0,
-    }
-}
-
-// Neither request nor connection any more.
-pub fn rests(settings: Settings, notice: u8, sent: u8) -> Stepped
-    ensures { λ r. ⌜ r ≡ reports (idle settings) notice sent ⌝ }
-{
-    let mut next = FRESH;
-    next.settings = settings;
-    Stepped {
-        next,
-        answered: NO_OPEN,
-        answer: 0,
         notice,
         sent,
         refusal: 0,
     }
 }
 
-// A request is answered, and nothing is left of it.
-pub fn answers_idle(settings: Settings, answer: u64, request: Open, sent: u8) -> Stepped
-    ensures { λ r. ⌜ r ≡ answers (idle settings) answer request 0 sent ⌝ }
+pub fn quiet(p: Phy) -> Stepped
+    ensures { λ r. ⌜ r ≡ Shapes·quiet p ⌝ }
 {
-    let mut next = FRESH;
-    next.settings = settings;
+    reports(p, 0, 0)
+}
+
+pub fn refused(p: Phy, refusal: u64) -> Stepped
+    ensures { λ r. ⌜ r ≡ Shapes·refused p refusal ⌝ }
+{
     Stepped {
-        next,
-        answered: request,
-        answer,
+        next: p,
+        answered: NO_OPEN,
+        answer: 0,
         notice: 0,
-        sent,
-        refusal: 0,
+        sent: 0,
+        refusal,
     }
 }

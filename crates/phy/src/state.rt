@@ -3,7 +3,7 @@ ghost use mathlib.Core.Path.{_≡_};
 ghost use mathlib.Core.Bool.{_&&_};
 ghost use lib.Dec.{eqb, leb};
 ghost use Rattle.phy.specs.Names.{P1 as Names·P1, P2 as Names·P2, P3 as Names·P3, P4 as Names·P4, fullTimer};
-ghost use Rattle.phy.specs.State.{isNoOpen, validIn};
+ghost use Rattle.phy.specs.State.{isNoOpen, validSettings, validIn};
 ghost use Rattle.phy.specs.Contracts.{StartsFresh, TellsValid};
 use crate::Phy;
 use crate::Settings;
@@ -22,31 +22,12 @@ use crate::names::P2;
 use crate::names::P3;
 use crate::names::P4;
 use crate::names::PORT_LAYER_REQUEST;
+use crate::shapes::FRESH;
 use event::Open;
 use event::STP;
 use event::open_known;
-
-pub const NO_OPEN: Open = Open {
-    destination: 0,
-    protocol: 0,
-    rate: 0,
-    tag: 0,
-    blocked: 0,
-    wait: 0,
-};
-
-pub const FRESH: Phy = Phy {
-    link: L0,
-    port: P1,
-    timer: 0,
-    request: NO_OPEN,
-    reason: 0,
-    source: 0,
-    inbound: 0,
-    connection: 0,
-    closed: false,
-    settings: Settings { accept: false },
-};
+use table::OFF;
+use table::ON;
 
 pub fn fresh() -> Phy
     ensures { λ r. ⌜ StartsFresh r ⌝ }
@@ -80,6 +61,13 @@ fn nobody(p: Phy) -> bool
     (p.source == 0) & (p.inbound == 0)
 }
 
+// Each setting is a flag.
+fn valid_settings(settings: Settings) -> bool
+    ensures { λ r. ⌜ r ≡ validSettings settings ⌝ }
+{
+    settings.accept <= ON
+}
+
 // P1, with each link state that it goes with: one test for each rule, in the paper's order. What the pair
 // settles is not tested again, and no test branches, so that those of a pair are made at once.
 fn valid_idle(p: Phy) -> bool
@@ -87,11 +75,14 @@ fn valid_idle(p: Phy) -> bool
 {
     let link = p.link;
     let request = p.request;
+    let set = valid_settings(p.settings);
     let unused = (p.timer == 0) & is_no_open(request) & (p.reason == 0);
+    let unlinked = p.connection == 0;
+    let unclosed = p.closed == OFF;
     match link {
-        L0 => unused & nobody(p) & (p.connection == 0) & !p.closed,
-        L2 => unused & (p.inbound <= STP) & (p.connection == 0) & !p.closed,
-        L6 => unused & nobody(p) & (p.connection == 0) & !p.closed,
+        L0 => unused & nobody(p) & unlinked & unclosed & set,
+        L2 => unused & (p.inbound <= STP) & unlinked & unclosed & set,
+        L6 => unused & nobody(p) & unlinked & unclosed & set,
         _ => false,
     }
 }
@@ -102,18 +93,15 @@ fn valid_requesting(p: Phy) -> bool
     let link = p.link;
     let request = p.request;
     let timer = p.timer;
+    let set = valid_settings(p.settings);
     let asked = open_known(request);
+    let no_reason = p.reason == 0;
+    let unlinked = p.connection == 0;
+    let unclosed = p.closed == OFF;
     match link {
-        L1 => runs(timer) & asked & (p.reason == 0) & nobody(p) & (p.connection == 0) & !p.closed,
-        L2 => {
-            (timer == 0)
-                & asked
-                & (p.reason == 0)
-                & (p.inbound <= STP)
-                & (p.connection == 0)
-                & !p.closed
-        }
-        L6 => (timer == 0) & asked & (p.reason == 0) & nobody(p) & (p.connection == 0) & !p.closed,
+        L1 => runs(timer) & asked & no_reason & nobody(p) & unlinked & unclosed & set,
+        L2 => (timer == 0) & asked & no_reason & (p.inbound <= STP) & unlinked & unclosed & set,
+        L6 => (timer == 0) & asked & no_reason & nobody(p) & unlinked & unclosed & set,
         _ => false,
     }
 }
@@ -124,27 +112,16 @@ fn valid_connected(p: Phy) -> bool
     let link = p.link;
     let request = p.request;
     let timer = p.timer;
+    let set = valid_settings(p.settings);
     let unused = is_no_open(request);
+    let no_reason = p.reason == 0;
+    let linked = p.connection <= STP;
+    let unclosed = p.closed == OFF;
     match link {
-        L3 => (timer == 0) & unused & (p.reason == 0) & nobody(p) & (p.connection <= STP),
-        L4 => runs(timer)
-            & unused
-            & (p.reason == 0)
-            & nobody(p)
-            & (p.connection <= STP)
-            & !p.closed,
-        L5 => runs(timer)
-            & unused
-            & (p.reason == 0)
-            & nobody(p)
-            & (p.connection <= STP)
-            & !p.closed,
-        L6 => (timer == 0)
-            & unused
-            & (p.reason == 0)
-            & nobody(p)
-            & (p.connection <= STP)
-            & !p.closed,
+        L3 => (timer == 0) & unused & no_reason & nobody(p) & linked & (p.closed <= ON) & set,
+        L4 => runs(timer) & unused & no_reason & nobody(p) & linked & unclosed & set,
+        L5 => runs(timer) & unused & no_reason & nobody(p) & linked & unclosed & set,
+        L6 => (timer == 0) & unused & no_reason & nobody(p) & linked & unclosed & set,
         _ => false,
     }
 }
@@ -156,24 +133,15 @@ fn valid_closing(p: Phy) -> bool
     let request = p.request;
     let timer = p.timer;
     let reason = p.reason;
+    let set = valid_settings(p.settings);
     let asked = open_known(request);
+    let given_up = (reason == OPEN_TIMEOUT) | (reason == PORT_LAYER_REQUEST);
+    let broken = reason == OPEN_BROKEN;
+    let unlinked = p.connection == 0;
+    let unclosed = p.closed == OFF;
     match link {
-        L5 => {
-            runs(timer)
-                & asked
-                & ((reason == OPEN_TIMEOUT) | (reason == PORT_LAYER_REQUEST))
-                & nobody(p)
-                & (p.connection == 0)
-                & !p.closed
-        }
-        L6 => {
-            (timer == 0)
-                & asked
-                & (reason == OPEN_BROKEN)
-                & nobody(p)
-                & (p.connection == 0)
-                & !p.closed
-        }
+        L5 => runs(timer) & asked & given_up & nobody(p) & unlinked & unclosed & set,
+        L6 => (timer == 0) & asked & broken & nobody(p) & unlinked & unclosed & set,
         _ => false,
     }
 }

@@ -1,8 +1,8 @@
 // What a tick does: the wait rises first, then the link state decides.
 ghost use mathlib.Core.Path.{_≡_};
 ghost use Prim.Native.Nat.{_-_, _<_};
-ghost use Rattle.phy.specs.State.{withTimer};
-ghost use Rattle.phy.specs.Moves.{quiet as Moves·quiet, longer as Moves·longer, aged as Moves·aged, tickRequesting, tickClosing, tickBreaking, openedBy, accepted as Moves·accepted, tickSelected, onTickAged, onTick};
+ghost use Rattle.phy.specs.Shapes.{quiet as Shapes·quiet, withTimer};
+ghost use Rattle.phy.specs.Ticks.{longer as Ticks·longer, tickRequesting, tickClosing, tickBreaking, openedBy, accepted as Ticks·accepted, tickSelected, onTickAged, onTick};
 use crate::Phy;
 use crate::Stepped;
 use crate::moves::to_idle;
@@ -23,15 +23,20 @@ use crate::names::OPENED_BY_DESTINATION;
 use crate::names::OPENED_BY_OTHER;
 use crate::names::P2;
 use crate::names::P4;
-use crate::shapes::answers_connected;
-use crate::shapes::connects;
+use crate::shapes::answers;
+use crate::shapes::connected;
 use crate::shapes::quiet;
-use crate::shapes::requests;
+use crate::shapes::reports;
+use crate::shapes::requesting;
+use crate::shapes::with_request;
+use crate::shapes::with_timer;
 use event::MOST_WAIT;
 use event::Open;
+use table::OFF;
+use table::ON;
 
 fn longer(o: Open) -> Open
-    ensures { λ r. ⌜ r ≡ Moves·longer o ⌝ }
+    ensures { λ r. ⌜ r ≡ Ticks·longer o ⌝ }
 {
     if MOST_WAIT <= o.wait {
         return o;
@@ -41,27 +46,12 @@ fn longer(o: Open) -> Open
     next
 }
 
-// Before all else a tick lets a request in P2 wait longer.
-fn aged(p: Phy) -> Phy
-    ensures { λ r. ⌜ r ≡ Moves·aged p ⌝ }
-{
-    if p.port == P2 {
-        let request = longer(p.request);
-        let mut next = p;
-        next.request = request;
-        return next;
-    }
-    p
-}
-
 // A running timer falls by one.
 fn counted(p: Phy) -> Stepped
     requires { ⌜ 1 < p .timer ⌝ }
-    ensures { λ r. ⌜ r ≡ Moves·quiet (withTimer p (p .timer - 1)) ⌝ }
+    ensures { λ r. ⌜ r ≡ Shapes·quiet (withTimer p (p .timer - 1)) ⌝ }
 {
-    let mut next = p;
-    next.timer = p.timer - 1;
-    quiet(next)
+    quiet(with_timer(p, p.timer - 1))
 }
 
 fn opened_by(source: u64, destination: u64) -> u64
@@ -79,7 +69,11 @@ fn tick_requesting(p: Phy) -> Stepped
     let settings = p.settings;
     let request = p.request;
     if p.timer <= 1 {
-        return requests(settings, L5, P4, FULL_TIMER, request, OPEN_TIMEOUT, BREAK);
+        return reports(
+            requesting(settings, L5, P4, FULL_TIMER, request, OPEN_TIMEOUT),
+            0,
+            BREAK,
+        );
     }
     counted(p)
 }
@@ -89,11 +83,8 @@ fn tick_closing(p: Phy) -> Stepped
 {
     let settings = p.settings;
     if p.timer <= 1 {
-        return connects(
-            settings,
-            L5,
-            FULL_TIMER,
-            p.connection,
+        return reports(
+            connected(settings, L5, FULL_TIMER, p.connection, OFF),
             CLOSED_TIMEOUT,
             BREAK,
         );
@@ -112,20 +103,24 @@ fn tick_breaking(p: Phy) -> Stepped
 
 // The far end's OPEN is a connection, and our request is answered according to who opened it.
 fn accepted(p: Phy) -> Stepped
-    ensures { λ r. ⌜ r ≡ Moves·accepted p ⌝ }
+    ensures { λ r. ⌜ r ≡ Ticks·accepted p ⌝ }
 {
     let port = p.port;
     let settings = p.settings;
     let request = p.request;
     match port {
-        P2 => answers_connected(
-            settings,
-            p.inbound,
+        P2 => answers(
+            connected(settings, L3, 0, p.inbound, OFF),
             opened_by(p.source, request.destination),
             request,
+            CONNECTION_OPENED,
             OPEN_ACCEPT,
         ),
-        _ => connects(settings, L3, 0, p.inbound, CONNECTION_OPENED, OPEN_ACCEPT),
+        _ => reports(
+            connected(settings, L3, 0, p.inbound, OFF),
+            CONNECTION_OPENED,
+            OPEN_ACCEPT,
+        ),
     }
 }
 
@@ -134,7 +129,7 @@ fn tick_selected(p: Phy) -> Stepped
     ensures { λ r. ⌜ r ≡ tickSelected p ⌝ }
 {
     let settings = p.settings;
-    if settings.accept {
+    if settings.accept == ON {
         return accepted(p);
     }
     to_idle(p, OPEN_REJECT)
@@ -154,8 +149,13 @@ fn on_tick_aged(p: Phy) -> Stepped
     }
 }
 
+// Before all else a tick lets a request in P2 wait longer. A phy with no such request goes on in a branch
+// of its own, so that a tick in L0 does nothing to a wait.
 pub fn on_tick(p: Phy) -> Stepped
     ensures { λ r. ⌜ r ≡ onTick p ⌝ }
 {
-    on_tick_aged(aged(p))
+    if p.port == P2 {
+        return on_tick_aged(with_request(p, longer(p.request)));
+    }
+    on_tick_aged(p)
 }

@@ -13,19 +13,20 @@ use Rattle.event.specs.Table.{knownOf}
 use Rattle.event.specs.declared.Event.{Event}
 use Rattle.trace.specs.Laws.{Passes, here, on}
 use Rattle.trace.proofs.Accepted.{read-known}
-use Rattle.phy.specs.State.{freshPhy, validOf}
+use Rattle.phy.specs.Shapes.{freshPhy}
+use Rattle.phy.specs.State.{validOf}
 use Rattle.phy.specs.Step.{stepOf}
 use Rattle.phy.specs.declared.Phy.{Phy}
 use Rattle.phy.specs.declared.Stepped.{Stepped}
-use Rattle.laws.specs.Waiting.{isAnswer}
-use Rattle.laws.proofs.Steps.{fresh-valid, stays-valid, reports-are-listed}
-use Rattle.laws.proofs.Refusals.{bad-state-exactly, bad-event-exactly, refused-keeps}
+use Rattle.phy_laws.specs.Waiting.{isAnswer}
+use Rattle.phy_laws.proofs.Steps.{fresh-valid, stays-valid, reports-are-listed}
+use Rattle.phy_laws.proofs.Refusals.{bad-state-exactly, bad-event-exactly, refused-keeps}
 use Rattle.ledger.specs.Log.{Entry, answered, many}
 use Rattle.ledger.specs.Demand.{logOf, phyAfter, oneIfWaiting}
 use Rattle.ledger.proofs.Demand.{demand3}
 use Rattle.run.specs.Running.{taking, byteOf, bytesOf, runOf}
 use Rattle.run.specs.Laws.{NeitherOneNorTwo, NoOneNorTwo, answersIn, answersOf, AnswersInOrder, RunsLawful}
-use Rattle.run.proofs.Bytes.{answer-least, none-or-answer}
+use Rattle.phy_laws.proofs.Bytes.{answer-least, none-or-answer}
 use Rattle.run.proofs.Stopping.{stops-well-always}
 use Rattle.run.proofs.Written.{writes-taken}
 

@@ -1,4 +1,3 @@
-pub mod Bytes
 pub mod Taking
 pub mod Loop
 pub mod Determined

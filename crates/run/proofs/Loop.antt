@@ -18,13 +18,13 @@ use Rattle.phy.specs.State.{validOf}
 use Rattle.phy.specs.Step.{moveOf, stepOf}
 use Rattle.phy.specs.declared.Phy.{Phy}
 use Rattle.phy.specs.declared.Stepped.{Stepped}
-use Rattle.laws.proofs.Refusals.{step-is-move}
-use Rattle.laws.proofs.Steps.{stays-valid}
+use Rattle.phy_laws.proofs.Refusals.{step-is-move}
+use Rattle.phy_laws.proofs.Steps.{stays-valid}
 use Rattle.ledger.specs.Log.{after}
 use Rattle.run.specs.Running.{Halt, atEnd, atBudget, atFault, refused, Course, stops, first, taking, byteOf, bytesOf, Told, told, toldOf, tells}
 use Rattle.run.specs.Contracts.{TakesEvents, Runs}
 use Rattle.run.specs.declared.Ran.{Ran}
-use Rattle.run.proofs.Bytes.{answer-small}
+use Rattle.phy_laws.proofs.Bytes.{are-bytes}
 use Rattle.run.proofs.Taking.{taking-ended, taking-spent, taking-event, taking-fault}
 
 -- ---- the invariant
@@ -49,25 +49,25 @@ running-start p s budget before v r =
     record { left = budget; spent = omega arith; valid = v; room = r; long = refl; says = none-counted (toldOf p (taking budget s 0)); bytes = refl }
 
 module _ {p : Phy} {s : List ℕ} {budget : ℕ} {before : List ℕ} {state : Phy} {place count : ℕ} {buffer : List ℕ} (w : Running p s budget before state place count buffer) where
-  pub running-room : (count ≡ budget → ⊥) → count < length buffer
-  running-room h = omega (arith, w .spent, w .room, w .long)
+  pub running-room : count < budget → count < length buffer
+  running-room h = omega (arith, w .room, w .long)
 
   abbrev fewer : ℕ
   fewer = w .left - 1
 
-  some-left : (count ≡ budget → ⊥) → w .left ≡ suc fewer
+  some-left : count < budget → w .left ≡ suc fewer
   some-left h = omega (arith, w .spent)
 
-  none-left : count ≡ budget → w .left ≡ zero
+  none-left : budget ≤ count → w .left ≡ zero
   none-left h = omega (arith, w .spent)
 
   -- ---- an event is read, with budget left
-  module _ {e : Event} {next : ℕ} {m : Stepped} (h : (count ≡ budget → ⊥)) (r : readEvent s place ≡ reading.event e next) (q : m ≡ moveOf state e) where
+  module _ {e : Event} {next : ℕ} {m : Stepped} (h : count < budget) (r : readEvent s place ≡ reading.event e next) (q : m ≡ moveOf state e) where
     moves : stepOf state e ≡ m
     moves = step-is-move state e (record { valid = w .valid; known = read-known s place e next r }) ∙ sym q
 
-    pub running-small : m .answer < 256
-    running-small = rw (← moves) (answer-small state e)
+    pub running-small : (m .answer < 256) × (m .refusal < 256)
+    running-small = rw (← moves) (are-bytes state e .answer, are-bytes state e .refusal)
 
     one-more : taking (w .left) s place ≡ first e (taking fewer s next)
     one-more = ap (λ (n : ℕ). taking n s place) (some-left h) ∙ taking-event s place fewer r
@@ -103,11 +103,11 @@ module _ {p : Phy} {s : List ℕ} {budget : ℕ} {before : List ℕ} {state : Ph
       }
 
   -- the budget is spent before the trace's end
-  pub halted-budget : {r : Ran} → place < length s → count ≡ budget → tells r ≡ told count state atBudget → TakesEvents p s budget before r buffer
+  pub halted-budget : {r : Ran} → place < length s → budget ≤ count → tells r ≡ told count state atBudget → TakesEvents p s budget before r buffer
   halted-budget h q = halted (ap (λ (n : ℕ). taking n s place) (none-left q) ∙ taking-spent s place h)
 
   -- a fault, with budget left
-  pub halted-fault : {n first : ℕ} {r : Ran} → (count ≡ budget → ⊥) → readEvent s place ≡ reading.refused n first → tells r ≡ told count state (atFault n first) → TakesEvents p s budget before r buffer
+  pub halted-fault : {n first : ℕ} {r : Ran} → count < budget → readEvent s place ≡ reading.refused n first → tells r ≡ told count state (atFault n first) → TakesEvents p s budget before r buffer
   halted-fault h f = halted (ap (λ (n : ℕ). taking n s place) (some-left h) ∙ taking-fault s place fewer f)
 
   -- the trace has ended

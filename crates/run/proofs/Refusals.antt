@@ -10,10 +10,12 @@ use lib.ListN.{length}
 use Rattle.table.proofs.Laws.{by-test, by-pick}
 use Rattle.trace.specs.Reading as reading
 use Rattle.trace.specs.Reading.{readEvent}
+use Rattle.trace.proofs.Refusals.{writer-bad-event-exactly}
 use Rattle.phy.specs.State.{validOf}
 use Rattle.phy.specs.declared.Phy.{Phy}
+use Rattle.phy_laws.proofs.Refusals.{bad-event-exactly}
 use Rattle.run.specs.Running.{Halt, atEnd, atBudget, atFault, refused, Course, onwards, taking}
-use Rattle.run.specs.Laws.{BadStateExactly, NoRoomExactly, RefusedKeeps}
+use Rattle.run.specs.Laws.{BadStateExactly, NoRoomExactly, AsTheWriter, RefusedKeeps}
 
 -- ---- which number a halt tells
 
@@ -71,3 +73,11 @@ refused-keeps p s budget buffer n h =
     (λ v. record { none-taken = rw v refl; same-state = rw v refl; same-bytes = rw v refl })
     (λ v r. record { none-taken = rw (v, r) refl; same-state = rw (v, r) refl; same-bytes = rw (v, r) refl })
     (λ v r. absurd (let z = ap numberOf (rw (v, r) at h) in omega (arith, refuses-none budget s 0)))
+
+-- ---- a bad event: the phy and the writer read the same table of arguments
+
+pub as-the-writer : AsTheWriter
+as-the-writer p e buffer place v =
+    let steps = bad-event-exactly p e in
+    let writes = writer-bad-event-exactly e buffer place in
+    (λ q. writes .1 (steps .0 q .1), λ q. steps .1 (v, writes .0 q))

@@ -10,11 +10,14 @@ use Rattle.table.specs.Refusals.{badState, badEvent, noRoom}
 use Rattle.event.specs.declared.Event.{Event}
 use Rattle.trace.specs.Reading as reading
 use Rattle.trace.specs.Reading.{readEvent}
+use Rattle.trace.specs.Writing as writing
+use Rattle.trace.specs.Writing.{writeEvent}
 use Rattle.trace.specs.Laws.{Passes, ReadsAll}
-use Rattle.phy.specs.State.{freshPhy, validOf}
+use Rattle.phy.specs.Shapes.{freshPhy}
+use Rattle.phy.specs.State.{validOf}
 use Rattle.phy.specs.Step.{stepOf}
 use Rattle.phy.specs.declared.Phy.{Phy}
-use Rattle.laws.specs.Waiting.{isAnswer}
+use Rattle.phy_laws.specs.Waiting.{isAnswer}
 use Rattle.ledger.specs.Log.{Entry, log, accepted, answered, many}
 use Rattle.ledger.specs.Demand.{logOf, oneIfWaiting, Lawful}
 use Rattle.run.specs.Running.{Halt, atEnd, atBudget, atFault, refused, Course, taking, bytesOf, runOf, bufferAfter, tellsStop}
@@ -45,6 +48,12 @@ abbrev pub NoRoomExactly : Type 0
 NoRoomExactly =
     (p : Phy) (s : List ℕ) (budget : ℕ) (buffer : List ℕ)
     → runOf p s budget buffer .halt ≡ refused noRoom ↔ ((validOf p ≡ true) × (length buffer < budget))
+
+-- 2, of an event: a valid phy refuses with 2 exactly what the trace's writer refuses with 2, into any buffer, so no event of a trace is so refused
+abbrev pub AsTheWriter : Type 0
+AsTheWriter =
+    (p : Phy) (e : Event) (buffer : List ℕ) (place : ℕ) → validOf p ≡ true
+    → stepOf p e .refusal ≡ badEvent ↔ (writeEvent e buffer place ≡ writing.refused badEvent)
 
 -- refused, nothing is taken, the state is as given and the buffer as it was
 pub record Untouched (p : Phy) (s : List ℕ) (budget : ℕ) (buffer : List ℕ) : Type 0 where

@@ -30,14 +30,14 @@ pub struct Ran {
 
 // The byte of an event taken: the refusal, or else the answer, or else 0.
 fn byte_of(r: Stepped) -> u8
-    requires { ⌜ r .answer < 256 ⌝ }
+    requires { ⌜ (r .answer < 256) × (r .refusal < 256) ⌝ }
     ensures { λ b. ⌜ b ≡ byteOf r ⌝ }
 {
     let refusal = r.refusal;
     if refusal == 0 {
         r.answer as u8
     } else {
-        refusal
+        refusal as u8
     }
 }
 
@@ -56,10 +56,7 @@ fn take_events(phy: Phy, trace: &[u8], budget: usize, buffer: &mut [u8]) -> Ran
     let mut state = phy;
     let mut place = 0;
     let mut count = 0;
-    while place < trace.len() {
-        if count == budget {
-            return stopped(state, count, Stop::Budget);
-        }
+    while count < budget {
         match trace::event_at(trace, place) {
             EventRead::Event { event, next } => {
                 let r = phy::moved(state, event);
@@ -68,13 +65,16 @@ fn take_events(phy: Phy, trace: &[u8], budget: usize, buffer: &mut [u8]) -> Ran
                 place = next;
                 count += 1;
             }
-            // Not met: the place lies inside the trace.
             EventRead::End => return stopped(state, count, Stop::End),
             EventRead::BadEvent(first) => return stopped(state, count, Stop::BadEvent(first)),
             EventRead::Cut(first) => return stopped(state, count, Stop::Cut(first)),
             EventRead::Overlong(first) => return stopped(state, count, Stop::Overlong(first)),
             EventRead::TooLarge(first) => return stopped(state, count, Stop::TooLarge(first)),
         }
+    }
+    // The end comes before the budget: a trace that ends with its last event taken has ended.
+    if place < trace.len() {
+        return stopped(state, count, Stop::Budget);
     }
     stopped(state, count, Stop::End)
 }

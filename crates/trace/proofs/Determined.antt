@@ -8,7 +8,7 @@ use Rattle.trace.specs.Reading.{Told, event, end, tells}
 use Rattle.trace.specs.Reading as reading
 use Rattle.trace.specs.Writing.{ToldWritten, wrote, tellsWritten}
 use Rattle.trace.specs.Writing as writing
-use Rattle.trace.specs.Laws.{ReadTellsOnce, WrittenTellsOnce, ReadDetermined, PlaceDetermined, GivenDetermined, WriteDetermined, StartDetermined, NextDetermined}
+use Rattle.trace.specs.Laws.{ReadTellsOnce, WrittenTellsOnce, ReadDetermined, PlaceDetermined, WriteDetermined, StartDetermined, NextDetermined}
 use Rattle.trace.specs.declared.EventRead.{EventRead}
 use Rattle.trace.specs.declared.EventRead.the-variants as read
 use Rattle.trace.specs.declared.EventWritten.{EventWritten}
@@ -51,9 +51,6 @@ read-determined s place r q a b = read-tells-once r q (a ∙ sym b)
 
 pub place-determined : PlaceDetermined
 place-determined read place r q a b = a ∙ sym b
-
-pub given-determined : GivenDetermined
-given-determined read r q a b = a ∙ sym b
 
 pub write-determined : WriteDetermined
 write-determined e before place r q after later a b = (written-tells-once r q (a .says ∙ sym (b .says)), a .bytes ∙ sym (b .bytes))

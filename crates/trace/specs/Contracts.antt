@@ -8,7 +8,7 @@ use lib.Seq.{sets}
 use denote.Ref.{RefT, now}
 use Rattle.event.specs.Table.{knownOf}
 use Rattle.event.specs.declared.Event.{Event}
-use Rattle.trace.specs.Reading.{afterCode, said, readEvent, eventGiven, placeReached, tells}
+use Rattle.trace.specs.Reading.{afterCode, said, readEvent, placeReached, tells}
 use Rattle.trace.specs.Writing.{eventBytes, writeEvent, bufferAfter, tellsWritten}
 use Rattle.trace.specs.declared.EventRead.{EventRead}
 use Rattle.trace.specs.declared.EventWritten.{EventWritten}
@@ -25,10 +25,6 @@ ReadsEvent s place r = tells r ≡ readEvent s place
 -- `place_reached` of an answer got at a place
 abbrev pub ReachesPlace : EventRead → ℕ → ℕ → Type 0
 ReachesPlace read place r = r ≡ placeReached place (tells read)
-
--- `event_given` of an answer
-abbrev pub GivesEvent : EventRead → Event → Type 0
-GivesEvent read r = r ≡ eventGiven (tells read)
 
 -- what `write_numbers` asks: the event is known and its bytes fit
 pub record HasRoom (e : Event) (buffer : List ℕ) (place : ℕ) : Type 0 where

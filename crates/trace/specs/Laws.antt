@@ -13,11 +13,11 @@ use Rattle.number.specs.Laws.{EndsEarly, EndsInZero, TenthTooLarge, Bytes}
 use Rattle.event.specs.Table.{argumentsOf, within, codeKnown, knownOf, codes}
 use Rattle.event.specs.declared.Event.{Event}
 use Rattle.event.specs.declared.Range.{Range}
-use Rattle.trace.specs.Reading.{Told, event, end, eventOf, readEvent, eventGiven, placeReached, tells}
+use Rattle.trace.specs.Reading.{event, end, eventOf, readEvent, eventGiven, placeReached, tells}
 use Rattle.trace.specs.Reading as reading
 use Rattle.trace.specs.Writing.{wrote, eventBytes, traceBytes, writeEvent, bufferAfter, lengthGiven, tellsWritten}
 use Rattle.trace.specs.Writing as writing
-use Rattle.trace.specs.Contracts.{ReadsEvent, ReachesPlace, GivesEvent, WritesEvent, StartsReader, TakesNext}
+use Rattle.trace.specs.Contracts.{ReadsEvent, ReachesPlace, WritesEvent, StartsReader, TakesNext}
 use Rattle.trace.specs.declared.EventRead.{EventRead}
 use Rattle.trace.specs.declared.EventRead.the-variants.{Event as Known}
 use Rattle.trace.specs.declared.EventWritten.{EventWritten}
@@ -41,10 +41,6 @@ ReadDetermined = (s : List ℕ) (place : ℕ) (r q : EventRead) → ReadsEvent s
 -- two results that `place_reached` may give coincide
 abbrev pub PlaceDetermined : Type 0
 PlaceDetermined = (read : EventRead) (place r q : ℕ) → ReachesPlace read place r → ReachesPlace read place q → r ≡ q
-
--- two results that `event_given` may give coincide
-abbrev pub GivenDetermined : Type 0
-GivenDetermined = (read : EventRead) (r q : Event) → GivesEvent read r → GivesEvent read q → r ≡ q
 
 -- two results that `write_event` may give coincide, and so do the buffers that it may leave
 abbrev pub WriteDetermined : Type 0

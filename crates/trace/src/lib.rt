@@ -5,22 +5,11 @@ ghost use mathlib.Core.Path.{_≡_};
 ghost use lib.ListN.{length};
 ghost use Rattle.event.specs.Table.{knownOf};
 ghost use Rattle.trace.specs.Writing.{allNumbers, eventBytes};
-ghost use Rattle.trace.specs.Contracts.{ReadsArguments, ReadsEvent, ReachesPlace, GivesEvent, StartsReader, TakesNext};
+ghost use Rattle.trace.specs.Contracts.{ReadsArguments, ReadsEvent, ReachesPlace, StartsReader, TakesNext};
 ghost use Rattle.trace.specs.Contracts.{HasRoom, FillsBuffer, WritesEvent};
 use event::Event;
 use number::NumberRead;
 use number::NumberWritten;
-
-// What is given where there is no event.
-const NO_EVENT: Event = Event {
-    code: 0,
-    first: 0,
-    second: 0,
-    third: 0,
-    fourth: 0,
-    fifth: 0,
-    sixth: 0,
-};
 
 // What stands at a place: an event and the place after it, the end of the trace, or why there is none.
 // A refusal has the place of the event's first byte.
@@ -120,20 +109,6 @@ pub fn place_reached(read: EventRead, place: usize) -> usize
         EventRead::Cut(_) => place,
         EventRead::Overlong(_) => place,
         EventRead::TooLarge(_) => place,
-    }
-}
-
-// The event that reading gives: at the end and on a fault a zero event.
-pub fn event_given(read: EventRead) -> Event
-    ensures { λ r. ⌜ GivesEvent read r ⌝ }
-{
-    match read {
-        EventRead::Event { event, next: _ } => event,
-        EventRead::End => NO_EVENT,
-        EventRead::BadEvent(_) => NO_EVENT,
-        EventRead::Cut(_) => NO_EVENT,
-        EventRead::Overlong(_) => NO_EVENT,
-        EventRead::TooLarge(_) => NO_EVENT,
     }
 }
 

@@ -12,68 +12,19 @@ use output::end_line;
 use output::put_more;
 use output::put_numbers;
 use phy::Phy;
-use run::Ran;
-use run::Stop;
-
-// A run stopped at the end, at the budget, or at a fault.
-const END: u64 = 0;
-
-const BUDGET: u64 = 1;
-
-const FAULT: u64 = 2;
-
-// How a run stopped, as the paper numbers it: refusal, how, fault, place.
-struct Said {
-    refusal: u8,
-    how: u64,
-    fault: u8,
-    place: usize,
-}
-
-fn said_fault(fault: u8, place: usize) -> Said {
-    Said {
-        refusal: 0,
-        how: FAULT,
-        fault,
-        place,
-    }
-}
-
-fn said_without(refusal: u8, how: u64) -> Said {
-    Said {
-        refusal,
-        how,
-        fault: 0,
-        place: 0,
-    }
-}
-
-fn said_stop(stop: Stop) -> Said {
-    match stop {
-        Stop::End => said_without(0, END),
-        Stop::Budget => said_without(0, BUDGET),
-        Stop::BadEvent(place) => said_fault(table::BAD_EVENT, place),
-        Stop::Cut(place) => said_fault(table::CUT, place),
-        Stop::Overlong(place) => said_fault(table::OVERLONG, place),
-        Stop::TooLarge(place) => said_fault(table::TOO_LARGE, place),
-        Stop::BadState => said_without(table::BAD_STATE, 0),
-        Stop::NoRoom => said_without(table::NO_ROOM, 0),
-    }
-}
+use replies::RunReply;
 
 // refusal, count, how, fault, its place, phy
-fn put_ran(out: &mut [u8], n: usize, kind: u64, r: Ran) -> usize {
+fn put_ran(out: &mut [u8], n: usize, kind: u64, r: RunReply) -> usize {
     let stop = r.stop;
-    let next = r.next;
-    let said = said_stop(stop);
     let head = [
-        said.refusal as u64,
+        stop.refusal,
         r.count as u64,
-        said.how,
-        said.fault as u64,
-        said.place as u64,
+        stop.how,
+        stop.fault,
+        stop.place as u64,
     ];
-    let numbers = phy_numbers(next);
+    let numbers = phy_numbers(r.next);
     let first = put_numbers(out, n, kind, &head);
     let end = put_more(out, first, &numbers);
     end_line(out, end)
@@ -95,7 +46,7 @@ fn put_run(
     out: &mut [u8],
     n: usize,
 ) -> After {
-    let r = run::run(state, trace, budget, lent);
+    let r = replies::run(state, trace, budget, lent);
     let next = r.next;
     let line = put_ran(out, n, kind, r);
     After {

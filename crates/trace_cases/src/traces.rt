@@ -1,6 +1,5 @@
 // Cases of whole traces: each event is read and written again where it stood.
 use crate::events::put_said;
-use crate::events::read_at;
 use crate::pieces::put_piece;
 use crate::repeats::put_repeats;
 use casefile::Place;
@@ -16,13 +15,13 @@ fn put_events(trace: &[u8], copy: &mut [u8], kind: u64, out: &mut [u8], n: usize
     let mut turns = 0;
     while turns <= trace.len() {
         turns += 1;
-        let said = read_at(trace, place);
+        let said = replies::read_event(trace, place);
         end = put_said(out, end, kind, said);
-        if said.how != 0 {
+        if said.how != replies::FOUND_EVENT {
             return put_repeats(out, end, kind, copy);
         }
-        trace::write_event(said.event, copy, place);
-        place = said.place;
+        replies::write_event(said.event, copy, place);
+        place = said.next;
     }
     // Not met: an event takes a byte at least.
     end

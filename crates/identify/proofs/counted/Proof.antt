@@ -16,4 +16,5 @@ counted-spec =
     (λ c. omega arith)
     (λ _ _. tt)
     (λ _ _. tt)
-    (λ c. simp (c .quiet .ensures, c .before .goes2 .ensures, lt-leb _ _ (c .before .before .before .if1 .left))))
+    (λ _ _. tt)
+    (λ c. simp (c .quiet .ensures, c .before .goes2 .ensures, c .before .before .type-after .ensures, lt-leb _ _ (c .before .before .before .before .if1 .left))))

@@ -1,5 +1,4 @@
 -- `identify::moved` meets its contract: after an outcome nothing moves but by Enable, else each arm is the row of its number.
-use native.Mathlib.Omega.{arith}
 use mathlib.Core.Path.{sym}
 use Rattle.table.proofs.Laws.{unlisted}
 use Rattle.identify.specs.Step.{moveOf, moves}
@@ -11,7 +10,6 @@ unfolding moveOf
 moved-spec =
     tie.close
     (tie.spec
-    (λ c. omega arith)
     (λ _ _. tt)
     (λ c. simp (c .quiet .ensures, c .before .if1 .taken))
     (λ _ _. tt)

@@ -1,6 +1,5 @@
 -- `identify::valid` meets its contract: its tests are the definition's, and there are no branches.
 use mathlib.Core.Path.{refl}
-use native.Mathlib.Omega.{arith}
 use Rattle.identify.specs.State.{validOf}
 use Rattle.identify.proofs.valid.Statement.{statement}
 use Rattle.identify.proofs.valid.Tie as tie
@@ -10,8 +9,4 @@ unfolding validOf
 valid-spec =
     tie.close
     (tie.spec
-    (λ c. omega arith)
-    (λ c. omega arith)
-    (λ c. omega arith)
-    (λ c. omega arith)
     (λ c. refl))

@@ -24,8 +24,6 @@ walk-case-spec =
     (λ _ _. tt)
     (λ _ _. tt)
     (λ c. search needs)
-    (λ c. search needs)
-    (λ c. search needs)
     (λ _ _. tt)
     (λ c. search needs)
     (λ c. search needs)

@@ -16,10 +16,12 @@ returns c =
     (c .with-number8 .ensures .0 .behind _
     (c .before .with-number7 .ensures .0 .behind _
     (c .before .before .with-number6 .ensures .0 .behind _
-    (c .before .before .before .before .with-number5 .ensures .0 .behind _
-    (c .before .before .before .before .before .before .with-number4 .ensures .0 .behind _
-    (c .before .before .before .before .before .before .before .with-number3 .ensures .0 .behind _
-    (c .before .before .before .before .before .before .before .before .before .with-number2 .ensures .0 .behind _ (c .before .before .before .before .before .before .before .before .before .before .with-number .ensures .0 .behind _ (c .before .before .before .before .before .before .before .before .before .before .before .empty .ensures)))))))))
+    (c .before .before .before .with-number5 .ensures .0 .behind _
+    (c .before .before .before .before .with-number4 .ensures .0 .behind _
+    (c .before .before .before .before .before .with-number3 .ensures .0 .behind _
+    (c .before .before .before .before .before .before .with-number2 .ensures .0 .behind _
+    (c .before .before .before .before .before .before .before .with-number .ensures .0 .behind _
+    (c .before .before .before .before .before .before .before .before .empty .ensures)))))))))
 
 pub event-line-spec : {M : Type 1} → statement M
 event-line-spec =
@@ -28,13 +30,10 @@ event-line-spec =
     (λ _ _. tt)
     (λ c κs. search needs)
     (λ c κs. search needs)
-    (λ c. search needs)
     (λ c κs. search needs)
     (λ c κs. search needs)
-    (λ c. search needs)
     (λ c κs. search needs)
-    (λ c. search needs)
+    (λ c κs. omega (arith, five c))
     (λ c κs. omega (arith, five (c .before)))
     (λ c κs. omega (arith, five (c .before .before)))
-    (λ c κs. omega (arith, five (c .before .before .before)))
     returns)

@@ -9,4 +9,5 @@ on-accept-spec =
     tie.close
     (tie.spec
     (λ _ _. tt)
-    (λ c. c .quiet .ensures))
+    (λ _ _. tt)
+    (λ c. simp (c .quiet .ensures, c .before .with-settings .ensures)))

@@ -10,8 +10,9 @@ on-smp-break-spec =
     tie.close
     (tie.spec
     (λ _ _. tt)
-    (λ c. simp (c .connects .ensures, eq-eqb _ _ (c .before .before .if1 .taken), eq-eqb _ _ (c .before .if2 .taken)))
     (λ _ _. tt)
-    (λ c. simp (c .refused .ensures, eq-eqb _ _ (c .before .before .if1 .taken), ne-eqb _ _ (c .before .if2 .left)))
+    (λ c. simp (c .reports .ensures, c .before .connected .ensures, eq-eqb _ _ (c .before .before .if2 .taken), eq-eqb _ _ (c .before .before .before .if1 .taken)))
+    (λ _ _. tt)
+    (λ c. simp (c .refused .ensures, ne-eqb _ _ (c .before .if2 .left), eq-eqb _ _ (c .before .before .if1 .taken)))
     (λ _ _. tt)
     (λ c. simp (c .refused2 .ensures, ne-eqb _ _ (c .before .if1 .left))))

@@ -1,5 +1,5 @@
 -- `phy::moves::to_idle` meets its contract: each arm is a row, and the rest is the default.
-use mathlib.Core.Path.{sym, _∙_}
+use mathlib.Core.Path.{sym}
 use Rattle.table.proofs.Laws.{unlisted}
 use Rattle.phy.specs.Moves.{idleRows, toIdle}
 use Rattle.phy.proofs.moves.to_idle.Statement.{statement}
@@ -14,7 +14,11 @@ to-idle-spec =
     (λ _ _. tt)
     (λ _ _. tt)
     (λ _ _. tt)
-    (λ c. simp (c .answers-idle .ensures, c .before .match .keys1))
-    (λ c. simp (c .answers-idle2 .ensures, c .before .match .keys2))
-    (λ c. simp (c .rests .ensures, c .before .match .keys3))
-    (λ c. c .rests2 .ensures ∙ sym (unlisted _ (idleRows (c .before .before .before .before .args .p) (c .before .before .before .before .args .sent)) _ (c .before .match .rest))))
+    (λ _ _. tt)
+    (λ _ _. tt)
+    (λ _ _. tt)
+    (λ _ _. tt)
+    (λ c. simp (c .answers .ensures, c .before .idle .ensures, c .before .before .match .keys1))
+    (λ c. simp (c .answers2 .ensures, c .before .idle2 .ensures, c .before .before .match .keys2))
+    (λ c. simp (c .reports .ensures, c .before .idle3 .ensures, c .before .before .match .keys3))
+    (λ c. simp (c .reports2 .ensures, c .before .idle4 .ensures) (sym (unlisted _ (idleRows (c .before .before .before .before .before .args .p) (c .before .before .before .before .before .args .sent)) _ (c .before .before .match .rest)))))

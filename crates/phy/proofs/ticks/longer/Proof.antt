@@ -1,7 +1,7 @@
 -- `phy::ticks::longer` meets its contract: its test is the definition's.
 use native.Mathlib.Omega.{arith}
 use borrow.Author.Tests.{le-leb, lt-leb}
-use Rattle.phy.specs.Moves.{longer}
+use Rattle.phy.specs.Ticks.{longer}
 use Rattle.phy.proofs.ticks.longer.Statement.{statement}
 use Rattle.phy.proofs.ticks.longer.Tie as tie
 

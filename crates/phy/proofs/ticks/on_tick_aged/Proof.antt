@@ -1,7 +1,7 @@
 -- `phy::ticks::on_tick_aged` meets its contract: each arm is a row, and the rest is the default.
 use mathlib.Core.Path.{sym, _∙_}
 use Rattle.table.proofs.Laws.{unlisted}
-use Rattle.phy.specs.Moves.{tickRows, onTickAged}
+use Rattle.phy.specs.Ticks.{tickRows, onTickAged}
 use Rattle.phy.proofs.ticks.on_tick_aged.Statement.{statement}
 use Rattle.phy.proofs.ticks.on_tick_aged.Tie as tie
 

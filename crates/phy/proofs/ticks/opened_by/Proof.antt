@@ -1,6 +1,6 @@
 -- `phy::ticks::opened_by` meets its contract: its test is the definition's.
 use borrow.Author.Tests.{eq-eqb, ne-eqb}
-use Rattle.phy.specs.Moves.{openedBy}
+use Rattle.phy.specs.Ticks.{openedBy}
 use Rattle.phy.proofs.ticks.opened_by.Statement.{statement}
 use Rattle.phy.proofs.ticks.opened_by.Tie as tie
 

@@ -1,6 +1,6 @@
 -- `phy::ticks::tick_breaking` meets its contract: its test is the definition's.
 use borrow.Author.Tests.{le-leb, lt-leb}
-use Rattle.phy.specs.Moves.{tickBreaking}
+use Rattle.phy.specs.Ticks.{tickBreaking}
 use Rattle.phy.proofs.ticks.tick_breaking.Statement.{statement}
 use Rattle.phy.proofs.ticks.tick_breaking.Tie as tie
 

@@ -1,6 +1,6 @@
 -- `phy::ticks::tick_requesting` meets its contract: its test is the definition's.
 use borrow.Author.Tests.{le-leb, lt-leb}
-use Rattle.phy.specs.Moves.{tickRequesting}
+use Rattle.phy.specs.Ticks.{tickRequesting}
 use Rattle.phy.proofs.ticks.tick_requesting.Statement.{statement}
 use Rattle.phy.proofs.ticks.tick_requesting.Tie as tie
 
@@ -10,6 +10,7 @@ tick-requesting-spec =
     tie.close
     (tie.spec
     (λ _ _. tt)
-    (λ c. simp (c .requests .ensures, le-leb _ _ (c .before .if1 .taken)))
+    (λ _ _. tt)
+    (λ c. simp (c .reports .ensures, c .before .requesting .ensures, le-leb _ _ (c .before .before .if1 .taken)))
     (λ c κs. c .if1 .left)
     (λ c. simp (c .counted .ensures, lt-leb _ _ (c .before .if1 .left))))

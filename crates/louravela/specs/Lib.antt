@@ -1,4 +1,0 @@
-pub mod Machines
-pub mod Events
-pub mod Contracts
-pub mod Laws

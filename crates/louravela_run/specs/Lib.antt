@@ -1,3 +1,0 @@
-pub mod Run
-pub mod Contracts
-pub mod Laws

@@ -1,0 +1,11 @@
+pub mod Counting
+pub mod Tests
+pub mod Shapes
+pub mod OneStep
+pub mod InUse
+pub mod Reached
+pub mod ByEvent
+pub mod Steps
+pub mod Refusals
+pub mod Answers
+pub mod Bytes

@@ -1,0 +1,158 @@
+-- One step of a valid phy by a known event, at each of the twelve shapes: the one case analysis of the phy.
+use Prim.Native.Nat.{ℕ, _+_, _-_, _*_, _≤_}
+use mathlib.Core.Bool.{Bool, true, false, _&&_, _||_}
+use mathlib.Core.Path.{_≡_, refl, subst}
+use native.Mathlib.Omega.{arith}
+use borrow.Author.Tests.{leb-true, leb-false, le-leb}
+use lib.Dec.{eqb, leb, leb·zero}
+use Rattle.table.specs.Choice.{pick}
+use Rattle.table.proofs.Laws.{by-test, by-pick, parts}
+use Rattle.event.specs.Names.{STP, txOpen, tick, mostWait}
+use Rattle.event.specs.Table.{within, argumentRange, argumentsKnown, codeKnown, knownOf, openOf, openKnown}
+use Rattle.event.specs.declared.Event.{Event}
+use Rattle.event.specs.declared.Open.{Open}
+use Rattle.phy.specs.Names.{fullTimer}
+use Rattle.phy.specs.Shapes.{noOpen, withSettings, refused}
+use Rattle.phy.specs.State.{validPair, validSettings, validOf}
+use Rattle.phy.specs.Ticks.{longer}
+use Rattle.phy.specs.declared.Settings.{Settings}
+use Rattle.phy.specs.declared.Phy.{Phy}
+use Rattle.phy.specs.declared.Stepped.{Stepped}
+use Rattle.phy_laws.specs.Waiting.{waits, isAnswer}
+use Rattle.phy_laws.proofs.Counting.{accepts, heard, ticksOf, aipsOf, left}
+use Rattle.phy_laws.proofs.Shapes.{Fields, phyOf, Facts, tests}
+
+-- ---- what a step does to a waiting request
+
+-- no request waits before or after: nothing is answered
+pub record Nothing (e : Event) (r : Stepped) : Type 0 where
+  pub silent : r .answer ≡ 0
+  pub none : r .answered ≡ noOpen
+  pub opens : accepts e r ≡ false
+
+-- a Tx Open is accepted: it is the request, and waits
+pub record Taken (e : Event) (r : Stepped) : Type 0 where
+  pub silent : r .answer ≡ 0
+  pub none : r .answered ≡ noOpen
+  pub opens : accepts e r ≡ true
+  pub request : r .next .request ≡ openOf e
+  pub soon : left (r .next) ≤ 2000
+
+-- the request waits on: a tick takes one off what it may yet take, an AIP gives at most 999
+pub record Kept (p : Phy) (e : Event) (r : Stepped) : Type 0 where
+  pub silent : r .answer ≡ 0
+  pub none : r .answered ≡ noOpen
+  pub opens : accepts e r ≡ false
+  pub request : r .next .request ≡ heard p e
+  pub falls : left (r .next) + ticksOf e ≤ left p + 999 * aipsOf e
+
+-- the request is answered, by one of the sixteen codes and with its own arguments
+pub record Answered (p : Phy) (e : Event) (r : Stepped) : Type 0 where
+  pub code : isAnswer (r .answer) ≡ true
+  pub carries : r .answered ≡ heard p e
+  pub opens : accepts e r ≡ false
+
+-- which of the four, by whether a request waits before and after
+abbrev pub Tally : Phy → Event → Stepped → Type 0
+Tally p e r =
+    pick (waits (p .port))
+    (pick (waits (r .next .port)) (Kept p e r) (Answered p e r))
+    (pick (waits (r .next .port)) (Taken e r) (Nothing e r))
+
+-- events 5, 6, 14 and 15 set the accept flag
+abbrev pub setsFlag : ℕ → Bool
+setsFlag code = eqb code 5 || eqb code 6 || eqb code 14 || eqb code 15
+
+pub record Stepping (p : Phy) (e : Event) (r : Stepped) : Type 0 where
+  pub valid : validOf (r .next) ≡ true
+  pub tally : Tally p e r
+  pub flag : pick (setsFlag (e .code)) Unit (r .next .settings ≡ p .settings)
+  pub reports : leb (r .notice) 7 && leb (r .sent) 5 && leb (r .refusal) 6 ≡ true
+
+-- ---- validity of a phy by its fields
+pub valid-of : (link port : ℕ) (f : Fields) → validPair link port ≡ true → Facts link port f → validOf (phyOf link port f) ≡ true
+unfolding validOf
+valid-of link port f v h = rw (v, h .timer, h .request, h .reason, h .inbound, h .connection, h .closed, h .settings)
+
+-- with other settings that are valid
+pub settings-valid : (p : Phy) (s : Settings) → validSettings s ≡ true → validOf p ≡ true → validOf (withSettings p s) ≡ true
+settings-valid p s good v =
+    let t = tests p v in
+    valid-of (p .link) (p .port)
+    (record { timer = p .timer; request = p .request; reason = p .reason; source = p .source; inbound = p .inbound; connection = p .connection; closed = p .closed; settings = s })
+    (t .0) (record { timer = t .1; request = t .2; reason = t .3; inbound = t .4; connection = t .5; closed = t .6; settings = good })
+
+-- ---- an event that leaves the phy as it is: not listed, or refused
+module _ (e : Event) (n : ℕ) (other : eqb (e .code) tick ≡ false) (opens : eqb (e .code) txOpen && eqb n 0 ≡ false) (few : n ≤ 6) where
+  still-tally : (p : Phy) → Tally p e (refused p n)
+  unfolding heard
+  still-tally p =
+      by-test (waits (p .port))
+      (λ t. rw t (record { silent = refl; none = refl; opens = opens; request = rw other; falls = rw other (omega arith) }))
+      (λ f. rw f (record { silent = refl; none = refl; opens = opens }))
+
+  same-flag : (p : Phy) → pick (setsFlag (e .code)) Unit (p .settings ≡ p .settings)
+  same-flag p = by-test (setsFlag (e .code)) (λ t. rw t tt) (λ f. rw f refl)
+
+  pub still : (link port : ℕ) → validPair link port ≡ true → (f : Fields) → Facts link port f → Stepping (phyOf link port f) e (refused (phyOf link port f) n)
+  still link port v f h =
+      record { valid = valid-of link port f v h; tally = still-tally (phyOf link port f); flag = same-flag (phyOf link port f); reports = rw (le-leb n 6 few) }
+
+-- ---- small facts of kept Opens and of the timer
+
+-- the ranges of an Open's arguments, the first i of them together
+abbrev fit : ℕ → ℕ → Bool
+fit i v = within (argumentRange txOpen i) v
+
+abbrev fit2 : Open → Bool
+fit2 o = fit 0 (o .destination) && fit 1 (o .protocol)
+
+abbrev fit5 : Open → Bool
+fit5 o = fit2 o && fit 2 (o .rate) && fit 3 (o .tag) && fit 4 (o .blocked)
+
+fits : (o : Open) → openKnown o ≡ true → (fit5 o ≡ true) × (fit 5 (o .wait) ≡ true)
+unfolding openKnown argumentsKnown
+fits o k = parts (fit5 o) (fit 5 (o .wait)) k
+
+pub protocol-known : (o : Open) → openKnown o ≡ true → leb (o .protocol) STP ≡ true
+unfolding argumentRange
+protocol-known o k =
+    let a = parts (fit2 o && fit 2 (o .rate) && fit 3 (o .tag)) (fit 4 (o .blocked)) (fits o k .0) in
+    let b = parts (fit2 o && fit 2 (o .rate)) (fit 3 (o .tag)) (a .0) in
+    let c = parts (fit2 o) (fit 2 (o .rate)) (b .0) in
+    let d = parts (fit 0 (o .destination)) (fit 1 (o .protocol)) (c .0) in
+    parts (leb 0 (o .protocol)) (leb (o .protocol) STP) (d .1) .1
+
+pub wait-known : (o : Open) → openKnown o ≡ true → o .wait ≤ mostWait
+unfolding argumentRange
+wait-known o k = leb-true (o .wait) mostWait (parts (leb 0 (o .wait)) (leb (o .wait) mostWait) (fits o k .1) .1)
+
+-- the Open of a known Tx Open
+pub open-known : (e : Event) → knownOf e ≡ true → e .code ≡ txOpen → openKnown (openOf e) ≡ true
+unfolding knownOf openKnown
+open-known e k h =
+    subst (λ (code : ℕ). argumentsKnown code (e .first) (e .second) (e .third) (e .fourth) (e .fifth) (e .sixth) ≡ true) h
+    (parts (codeKnown (e .code)) (argumentsKnown (e .code) (e .first) (e .second) (e .third) (e .fourth) (e .fifth) (e .sixth)) k .1)
+
+-- a wait that has grown is still a wait
+longer-wait : (w : ℕ) → leb w mostWait ≡ true → leb (pick (leb mostWait w) w (w + 1)) mostWait ≡ true
+longer-wait w k = by-pick (λ n. leb n mostWait ≡ true) (leb mostWait w) (λ t. k) (λ f. le-leb (w + 1) mostWait (omega (arith, leb-false mostWait w f)))
+
+longer-fits : (w : ℕ) → fit 5 w ≡ true → fit 5 (pick (leb mostWait w) w (w + 1)) ≡ true
+unfolding argumentRange
+longer-fits w k = rw (leb·zero (pick (leb mostWait w) w (w + 1))) (longer-wait w (parts (leb 0 w) (leb w mostWait) k .1))
+
+pub longer-known : (o : Open) → openKnown o ≡ true → openKnown (longer o) ≡ true
+unfolding openKnown argumentsKnown longer
+longer-known o k = let q = fits o k in rw (q .0) (longer-fits (o .wait) (q .1))
+
+-- a timer that runs
+abbrev pub timed : ℕ → Bool
+timed t = leb 1 t && leb t fullTimer
+
+pub at-least-one : (t : ℕ) → timed t ≡ true → 1 ≤ t
+at-least-one t h = leb-true 1 t (parts (leb 1 t) (leb t fullTimer) h .0)
+
+-- one that has not fallen to 0 still runs
+pub timed-down : (t : ℕ) → timed t ≡ true → leb t 1 ≡ false → timed (t - 1) ≡ true
+timed-down t h f = rw (le-leb 1 (t - 1) (omega (arith, leb-false t 1 f)), le-leb (t - 1) fullTimer (omega (arith, leb-true t fullTimer (parts (leb 1 t) (leb t fullTimer) h .1))))
