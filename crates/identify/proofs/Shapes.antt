@@ -5,10 +5,10 @@ use mathlib.Core.Path.{_≡_, refl, sym, _∙_, subst}
 use native.Mathlib.Omega.{arith}
 use borrow.Author.Tests.{le-leb, leb-true, eqb-true, ne-eqb}
 use lib.Dec.{eqb, leb}
-use Rattle.table.proofs.Laws.{parts}
+use Rattle.table.proofs.Laws.{parts, is-flag, flag-says}
 use Rattle.identify.specs.Names.{idle, receiving, spoiled, completed, none, complete, timedOut, resetReceived, frameDwords, mostTicks}
 use Rattle.table.specs.Choice.{split}
-use Rattle.table.specs.Flags.{on, isFlag, isOn, flagOf}
+use Rattle.table.specs.Flags.{isFlag, isOn, flagOf}
 use Rattle.identify.specs.State.{only, flagsRight, receiverRight, countRight, typedRight, gotRight, timerRight, outcomeRight, completeRight, timedOutRight, resetRight, validOf}
 use Rattle.identify.specs.declared.Identification.{Identification}
 
@@ -56,11 +56,6 @@ pub data Shape : Identification → Type 0 where
   ended : {i : Identification} → Ended i → Shape i
 
 -- ---- each shape is valid
-
--- what says a test is a flag
-is-flag : (test : Bool) → isFlag (flagOf test) ≡ true
-is-flag true = refl
-is-flag false = refl
 
 going-valid : {i : Identification} → Going i → validOf i ≡ true
 unfolding validOf
@@ -207,18 +202,12 @@ shaped r n t (suc (suc (suc zero))) typed got sent v = ended (when-late r n t ty
 shaped r n t (suc (suc (suc (suc zero)))) typed got sent v = ended (when-reset r n t typed got sent v)
 shaped r n t (suc (suc (suc (suc (suc o))))) typed got sent v = absurd (beyond (suc (suc (suc (suc (suc o))))) (omega arith) (v .outcome))
 
--- a flag is what says its own test
-said : (n : ℕ) → isFlag n ≡ true → flagOf (isOn n) ≡ n
-said zero e = refl
-said (suc zero) e = refl
-said (suc (suc n)) e = absurd (omega (arith, leb-true (suc (suc n)) on e))
-
--- so a state whose flags are right is one by what they say
+-- a state whose flags are right is one by what they say
 by-flags : (i : Identification) → flagsRight i ≡ true → state (i .receiver) (i .count) (i .timer) (i .outcome) (isOn (i .typed)) (isOn (i .got)) (isOn (i .sent)) ≡ i
 by-flags i e =
     let f = parts _ (isFlag (i .sent)) e in
     let g = parts (isFlag (i .typed)) (isFlag (i .got)) (f .0) in
-    rw (said (i .typed) (g .0), said (i .got) (g .1), said (i .sent) (f .1))
+    rw (flag-says (i .typed) (g .0), flag-says (i .got) (g .1), flag-says (i .sent) (f .1))
 
 pub shape : (i : Identification) → validOf i ≡ true → Shape i
 shape i v =

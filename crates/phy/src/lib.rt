@@ -23,7 +23,7 @@ use event::REJECT_OPENS;
 use event::SMP_TRANSMIT_BREAK;
 use event::TICK;
 use event::TX_OPEN;
-pub use state::fresh;
+pub use shapes::fresh;
 pub use state::valid;
 
 // What outlives every move but a reset: flags.

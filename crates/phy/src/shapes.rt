@@ -2,6 +2,7 @@
 // zero, and what a step reports with it.
 ghost use mathlib.Core.Path.{_≡_};
 ghost use Rattle.phy.specs.Shapes.{requesting as Shapes·requesting, idle as Shapes·idle, selected as Shapes·selected, connected as Shapes·connected, withTimer, withRequest, withSettings, reports as Shapes·reports, answers as Shapes·answers, quiet as Shapes·quiet, refused as Shapes·refused};
+ghost use Rattle.phy.specs.Contracts.{StartsFresh};
 use crate::Phy;
 use crate::Settings;
 use crate::Stepped;
@@ -19,19 +20,6 @@ const NO_OPEN: Open = Open {
     tag: 0,
     blocked: 0,
     wait: 0,
-};
-
-pub const FRESH: Phy = Phy {
-    link: L0,
-    port: P1,
-    timer: 0,
-    request: NO_OPEN,
-    reason: 0,
-    source: 0,
-    inbound: 0,
-    connection: 0,
-    closed: OFF,
-    settings: Settings { accept: OFF },
 };
 
 // A request, or none, with no connection and no OPEN from the far end.
@@ -88,6 +76,25 @@ pub fn connected(settings: Settings, link: u64, timer: u64, connection: u64, clo
     next.connection = connection;
     next.closed = closed;
     next
+}
+
+pub const FRESH: Phy = Phy {
+    link: L0,
+    port: P1,
+    timer: 0,
+    request: NO_OPEN,
+    reason: 0,
+    source: 0,
+    inbound: 0,
+    connection: 0,
+    closed: OFF,
+    settings: Settings { accept: OFF },
+};
+
+pub fn fresh() -> Phy
+    ensures { λ r. ⌜ StartsFresh r ⌝ }
+{
+    FRESH
 }
 
 pub fn with_timer(p: Phy, timer: u64) -> Phy

@@ -1,10 +1,10 @@
-// The fresh phy, and which records are valid.
+// Which records are valid.
 ghost use mathlib.Core.Path.{_≡_};
 ghost use mathlib.Core.Bool.{_&&_};
 ghost use lib.Dec.{eqb, leb};
 ghost use Rattle.phy.specs.Names.{P1 as Names·P1, P2 as Names·P2, P3 as Names·P3, P4 as Names·P4, fullTimer};
 ghost use Rattle.phy.specs.State.{isNoOpen, validSettings, validIn};
-ghost use Rattle.phy.specs.Contracts.{StartsFresh, TellsValid};
+ghost use Rattle.phy.specs.Contracts.{TellsValid};
 use crate::Phy;
 use crate::Settings;
 use crate::names::FULL_TIMER;
@@ -22,18 +22,11 @@ use crate::names::P2;
 use crate::names::P3;
 use crate::names::P4;
 use crate::names::PORT_LAYER_REQUEST;
-use crate::shapes::FRESH;
 use event::Open;
 use event::STP;
 use event::open_known;
 use table::OFF;
 use table::ON;
-
-pub fn fresh() -> Phy
-    ensures { λ r. ⌜ StartsFresh r ⌝ }
-{
-    FRESH
-}
 
 // No argument is kept.
 fn is_no_open(o: Open) -> bool

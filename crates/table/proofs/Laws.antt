@@ -1,13 +1,14 @@
--- Laws of a choice by a number: the row at a listed number, the default at any other.
+-- Laws of a choice by a number, the row at a listed number and the default at any other; and of flags.
 use Prim.Native.Nat.{ℕ, zero, suc, _<_, _≤_}
 use mathlib.Core.Bool.{Bool, true, false, _&&_, false≢true}
 use mathlib.Core.List.{List, [], _∷_}
 use mathlib.Core.Path.{_≡_, refl, subst}
 use native.Mathlib.Nat.{le-antisymm, le-of-suc-le-suc}
 use native.Mathlib.Omega.{arith}
-use borrow.Author.Tests.{eq-eqb, ne-eqb, ltb-true, ltb-false}
+use borrow.Author.Tests.{eq-eqb, ne-eqb, ltb-true, ltb-false, leb-true}
 use lib.Dec.{eqb, ltb}
 use Rattle.table.specs.Choice.{pick, Row, rows, Listed, OthersFrom, Unlisted}
+use Rattle.table.specs.Flags.{on, isFlag, isOn, flagOf}
 
 -- the first row of a number is what the table says there: each row before it has another number
 pub listed : {A : Type 0} {n : ℕ} {a : A} {table : List (Row A)} (other : A) → Listed n a table → rows n table other ≡ a
@@ -75,3 +76,14 @@ EachRow P (r ∷ rs) = P (r .entry) × EachRow P rs
 pub every : {A : Type 0} (P : A → Type 0) (n : ℕ) (table : List (Row A)) {other : A} → EachRow P table → P other → P (rows n table other)
 every P n [] h o = o
 every P n (r ∷ rs) h o = by-pick P (eqb n (r .key)) (λ _. h .0) (λ _. every P n rs (h .1) o)
+
+-- the flag of a test is a flag
+pub is-flag : (test : Bool) → isFlag (flagOf test) ≡ true
+is-flag true = refl
+is-flag false = refl
+
+-- a flag is that of its own test
+pub flag-says : (n : ℕ) → isFlag n ≡ true → flagOf (isOn n) ≡ n
+flag-says zero e = refl
+flag-says (suc zero) e = refl
+flag-says (suc (suc n)) e = absurd (omega (arith, leb-true (suc (suc n)) on e))
