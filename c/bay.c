@@ -19,7 +19,7 @@ static void take(struct bay *bay, struct louravela_event event)
     struct louravela_stepped step = louravela_phy_step(bay->phy, event);
 
     bay->phy = step.next;
-    if (step.refusal != LOURAVELA_TAKEN) {
+    if (step.refusal != LOURAVELA_NOT_REFUSED) {
         printf("bay %d: event %" PRIu64 " refused, %" PRIu64 "\n", bay->number, event.code, step.refusal);
     }
     if (step.answer == 0) {

@@ -88,12 +88,12 @@ struct phy their_phy(const struct louravela_phy *phy)
         .port = phy->port,
         .timer = phy->timer,
         .request = {phy->request.destination, phy->request.protocol, phy->request.rate, phy->request.tag,
-                    phy->request.blocked, phy->request.wait},
+                    phy->request.blocked_count, phy->request.wait},
         .reason = phy->reason,
-        .source = phy->source,
-        .inbound_protocol = phy->inbound,
-        .connection_protocol = phy->connection,
-        .far_closed = phy->closed,
+        .source = phy->inbound_source,
+        .inbound_protocol = phy->inbound_protocol,
+        .connection_protocol = phy->connection_protocol,
+        .far_closed = phy->far_closed,
         .accept = phy->accept
     };
 
@@ -106,7 +106,7 @@ void same_open(const struct louravela_open *ours, const struct phy_request *thei
     same("an Open's protocol", ours->protocol, theirs->protocol);
     same("an Open's rate", ours->rate, theirs->rate);
     same("an Open's tag", ours->tag, theirs->tag);
-    same("an Open's blocked count", ours->blocked, theirs->blocked);
+    same("an Open's blocked count", ours->blocked_count, theirs->blocked);
     same("an Open's wait", ours->wait, theirs->wait);
 }
 
@@ -117,10 +117,10 @@ void same_phy(const struct louravela_phy *ours, const struct phy *theirs)
     same("the timer", ours->timer, theirs->timer);
     same_open(&ours->request, &theirs->request);
     same("the reason", ours->reason, theirs->reason);
-    same("the source", ours->source, theirs->source);
-    same("the inbound protocol", ours->inbound, theirs->inbound_protocol);
-    same("the connection's protocol", ours->connection, theirs->connection_protocol);
-    same("far-closed", ours->closed, theirs->far_closed);
+    same("the source", ours->inbound_source, theirs->source);
+    same("the inbound protocol", ours->inbound_protocol, theirs->inbound_protocol);
+    same("the connection's protocol", ours->connection_protocol, theirs->connection_protocol);
+    same("far-closed", ours->far_closed, theirs->far_closed);
     same("the accept flag", ours->accept, theirs->accept);
 }
 
@@ -160,7 +160,7 @@ struct louravela_event random_event(void)
 
 struct louravela_phy damaged_phy(struct louravela_phy phy)
 {
-    uint64_t *const flags[] = {&phy.closed, &phy.accept};
+    uint64_t *const flags[] = {&phy.far_closed, &phy.accept};
     uint64_t numbers[PHY_FIELDS];
 
     if (one_in(4)) {

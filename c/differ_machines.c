@@ -9,7 +9,7 @@
 #include "inputs.h"
 #include "refusals.h"
 
-enum { IDENTIFY_FIELDS = sizeof(struct louravela_identify) / sizeof(uint64_t), WALK_STEPS = 256 };
+enum { IDENTIFY_FIELDS = sizeof(struct louravela_identification) / sizeof(uint64_t), WALK_STEPS = 256 };
 
 /* ---- The phy ---- */
 
@@ -74,7 +74,7 @@ void walk_dws(void)
     }
 }
 
-static struct identify their_identify(const struct louravela_identify *state)
+static struct identify their_identify(const struct louravela_identification *state)
 {
     struct identify result = {
         .receiver = state->receiver,
@@ -89,7 +89,7 @@ static struct identify their_identify(const struct louravela_identify *state)
     return result;
 }
 
-static void same_identify(const struct louravela_identify *ours, const struct identify *theirs)
+static void same_identify(const struct louravela_identification *ours, const struct identify *theirs)
 {
     same("a receiver", ours->receiver, theirs->receiver);
     same("a count of dwords", ours->count, theirs->count);
@@ -100,7 +100,7 @@ static void same_identify(const struct louravela_identify *ours, const struct id
     same("sent", ours->sent, theirs->sent);
 }
 
-static struct louravela_identify identify_both(struct louravela_identify state, uint64_t event, uint64_t argument)
+static struct louravela_identification identify_both(struct louravela_identification state, uint64_t event, uint64_t argument)
 {
     struct louravela_identify_stepped ours = louravela_identify_step(state, event, argument);
     struct identify_result theirs = identify_step(their_identify(&state), event, argument);
@@ -113,7 +113,7 @@ static struct louravela_identify identify_both(struct louravela_identify state, 
 }
 
 /* With any numbers in some fields, or good but for a flag. */
-static struct louravela_identify damaged_identify(struct louravela_identify state)
+static struct louravela_identification damaged_identify(struct louravela_identification state)
 {
     uint64_t *const flags[] = {&state.typed, &state.got, &state.sent};
     uint64_t numbers[IDENTIFY_FIELDS];
@@ -148,7 +148,7 @@ static uint64_t identify_argument(uint64_t event)
 /* Whole frames come about too seldom by themselves, so some dwords come eight at a time. */
 void walk_identify(void)
 {
-    struct louravela_identify state = louravela_identify_fresh();
+    struct louravela_identification state = louravela_identify_fresh();
     struct identify fresh = identify_fresh();
 
     same_identify(&state, &fresh);

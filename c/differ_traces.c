@@ -28,7 +28,7 @@ static size_t write_both(struct louravela_event event, size_t length, size_t pla
     uint8_t ours[MOST_TRACE];
     uint8_t theirs[MOST_TRACE];
     struct phy_event their = their_event(&event);
-    struct louravela_event_written our_word;
+    struct louravela_write_reply our_word;
     struct event_written their_word;
 
     memcpy(ours, trace, sizeof ours);
@@ -68,7 +68,7 @@ static size_t damaged_trace(size_t length)
 
 static void read_both(size_t length, size_t place)
 {
-    struct louravela_event_found ours = louravela_event_read(trace, length, place);
+    struct louravela_event_reply ours = louravela_event_read(trace, length, place);
     struct event_read theirs = event_read(trace, length, place);
     struct phy_event our_event = their_event(&ours.event);
 
@@ -82,7 +82,7 @@ static void read_both(size_t length, size_t place)
     }
 }
 
-static void same_ran(const struct louravela_ran *ours, const struct run_result *theirs)
+static void same_ran(const struct louravela_run_reply *ours, const struct run_result *theirs)
 {
     same("a run's refusal", ours->refusal, theirs->refusal);
     same("a run's count", ours->count, theirs->count);
@@ -98,7 +98,7 @@ static void run_both(struct louravela_phy phy, size_t length, size_t budget, siz
     uint8_t theirs[MOST_TRACE];
     struct run_trace bytes = {trace, length};
     struct run_buffer buffer = {theirs, room};
-    struct louravela_ran our_word;
+    struct louravela_run_reply our_word;
     struct run_result their_word;
 
     fill_both(ours, theirs, MOST_TRACE);
@@ -134,7 +134,7 @@ void walk_trace(struct louravela_phy phy)
 
 static void read_numbers(const uint8_t *bytes, size_t length, size_t place)
 {
-    struct louravela_number_found ours = louravela_number_read(bytes, length, place);
+    struct louravela_number_reply ours = louravela_number_read(bytes, length, place);
     struct number_read theirs = number_read(bytes, length, place);
 
     compared_numbers++;
@@ -147,7 +147,7 @@ static void write_numbers(uint64_t value, size_t length, size_t place)
 {
     uint8_t ours[2 * NUMBER_MOST_BYTES];
     uint8_t theirs[2 * NUMBER_MOST_BYTES];
-    struct louravela_number_written our_word;
+    struct louravela_write_reply our_word;
     struct number_written their_word;
 
     fill_both(ours, theirs, sizeof ours);

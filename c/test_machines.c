@@ -73,9 +73,9 @@ static void test_bad_states(void)
         EXPECT_REFUSED(phy, tick, LOURAVELA_BAD_STATE);
         EXPECT_REFUSED(phy, unknown, LOURAVELA_BAD_STATE);
         phy.accept = 0;
-        phy.closed = no_flags[i];
+        phy.far_closed = no_flags[i];
         EXPECT_REFUSED(phy, tick, LOURAVELA_BAD_STATE);
-        connected.closed = no_flags[i];
+        connected.far_closed = no_flags[i];
         EXPECT_REFUSED(connected, event_of(LOURAVELA_CLOSE_CONNECTION), LOURAVELA_BAD_STATE);
     }
     for (size_t field = 0; field < sizeof(struct louravela_phy) / sizeof(uint64_t); field++) {
@@ -141,11 +141,11 @@ static void test_timeout(void)
     EXPECT(step.answered.protocol, LOURAVELA_SSP);
     EXPECT(step.answered.rate, 9);
     EXPECT(step.answered.tag, 300);
-    EXPECT(step.answered.blocked, 2);
+    EXPECT(step.answered.blocked_count, 2);
     EXPECT(step.answered.wait, 1000);
     EXPECT(step.notice, 0);
     EXPECT(step.sent, 0);
-    EXPECT(step.refusal, LOURAVELA_TAKEN);
+    EXPECT(step.refusal, LOURAVELA_NOT_REFUSED);
     EXPECT_SAME(step.next, fresh);
 }
 
@@ -163,7 +163,7 @@ static void test_opened(void)
     EXPECT(step.sent, LOURAVELA_SENT_OPEN_ACCEPT);
     EXPECT(step.next.link, LOURAVELA_L3_CONNECTED);
     EXPECT(step.next.port, LOURAVELA_P3_CONNECTED);
-    EXPECT(after(step.next, event_of(LOURAVELA_CLOSE_RECEIVED)).closed, 1);
+    EXPECT(after(step.next, event_of(LOURAVELA_CLOSE_RECEIVED)).far_closed, 1);
     step = louravela_phy_step(after(selected, tx_open(8)), event_of(LOURAVELA_TICK));
     EXPECT(step.answer, LOURAVELA_ANSWER_OPENED_BY_OTHER);
     step = louravela_phy_step(selected, event_of(LOURAVELA_PHY_DISABLED));
@@ -198,14 +198,14 @@ static void test_dws(void)
     EXPECT(dws_after(3, m1, 3), 3);
     EXPECT(dws_after(3, m2, 7), 0);
     EXPECT(louravela_dws_step(2, LOURAVELA_DWS_PRIMITIVE).report, LOURAVELA_DWS_ACQUIRED);
-    EXPECT(louravela_dws_step(9, LOURAVELA_DWS_INVALID).report, LOURAVELA_DWS_LOST);
+    EXPECT(louravela_dws_step(9, LOURAVELA_DWS_INVALID_DWORD).report, LOURAVELA_DWS_LOST);
     EXPECT(louravela_dws_step(9, LOURAVELA_DWS_RESTART).report, 0);
     expect_dws_refused(__LINE__, 10, 0, LOURAVELA_BAD_STATE);
     expect_dws_refused(__LINE__, UINT64_MAX, 4, LOURAVELA_BAD_STATE);
     expect_dws_refused(__LINE__, 9, 4, LOURAVELA_BAD_EVENT);
 }
 
-static void expect_identify_refused(int line, struct louravela_identify state, uint64_t event, uint64_t argument,
+static void expect_identify_refused(int line, struct louravela_identification state, uint64_t event, uint64_t argument,
                                     uint64_t refusal)
 {
     struct louravela_identify_stepped step = louravela_identify_step(state, event, argument);
@@ -222,8 +222,8 @@ static void expect_identify_refused(int line, struct louravela_identify state, u
 
 static void test_identify(void)
 {
-    struct louravela_identify state = louravela_identify_fresh();
-    struct louravela_identify fresh = {0};
+    struct louravela_identification state = louravela_identify_fresh();
+    struct louravela_identification fresh = {0};
     struct louravela_identify_stepped step;
 
     EXPECT_SAME(state, fresh);
@@ -247,7 +247,7 @@ static void test_identify(void)
 
 static void test_identify_refusals(void)
 {
-    struct louravela_identify state = louravela_identify_fresh();
+    struct louravela_identification state = louravela_identify_fresh();
 
     EXPECT_IDENTIFY_REFUSED(state, 8, 0, LOURAVELA_BAD_EVENT);
     EXPECT_IDENTIFY_REFUSED(state, LOURAVELA_IDENTIFY_SOAF, 1, LOURAVELA_BAD_EVENT);

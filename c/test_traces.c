@@ -10,9 +10,9 @@
 static const uint8_t sample[] = {0x01, 0x05, 0x01, 0x09, 0xAC, 0x02, 0x00, 0x00, 0x0B, 0x0D};
 static const uint8_t sample_bytes[] = {0, 0, LOURAVELA_ANSWER_BREAK_RECEIVED};
 
-static void expect_ran(int line, struct louravela_ran ran, size_t count, uint64_t how, uint64_t fault, size_t place)
+static void expect_ran(int line, struct louravela_run_reply ran, size_t count, uint64_t how, uint64_t fault, size_t place)
 {
-    expect(line, "the run's refusal", ran.refusal, LOURAVELA_TAKEN);
+    expect(line, "the run's refusal", ran.refusal, LOURAVELA_NOT_REFUSED);
     expect(line, "the count", ran.count, count);
     expect(line, "how it stopped", ran.how, how);
     expect(line, "the fault", ran.fault, fault);
@@ -23,8 +23,8 @@ static void expect_ran(int line, struct louravela_ran ran, size_t count, uint64_
 
 static void expect_run_refused(int line, struct louravela_phy phy, size_t budget, size_t length, uint64_t refusal)
 {
-    struct louravela_ran ran = louravela_phy_run(phy, sample, sizeof sample, budget, lend(), length);
-    struct louravela_ran wanted = {0};
+    struct louravela_run_reply ran = louravela_phy_run(phy, sample, sizeof sample, budget, lend(), length);
+    struct louravela_run_reply wanted = {0};
 
     wanted.next = phy;
     wanted.refusal = refusal;
@@ -38,7 +38,7 @@ static void expect_run_refused(int line, struct louravela_phy phy, size_t budget
 static void test_runs(void)
 {
     struct louravela_phy fresh = louravela_phy_fresh();
-    struct louravela_ran ran = louravela_phy_run(fresh, sample, sizeof sample, ROOM, lend(), ROOM);
+    struct louravela_run_reply ran = louravela_phy_run(fresh, sample, sizeof sample, ROOM, lend(), ROOM);
 
     EXPECT_RAN(ran, 3, LOURAVELA_STOPPED_AT_END, 0, 0);
     EXPECT_SAME(ran.next, fresh);
@@ -65,7 +65,7 @@ static void test_run_faults(void)
     static const uint8_t bad_event[] = {0x0D, 0x10};
     static const uint8_t overlong[] = {0x0D, 0x0D, 0x8D, 0x00};
     static const uint8_t too_large[] = {0x07, 0x80, 0x80, 0x80, 0x80, 0x80, 0x80, 0x80, 0x80, 0x80, 0x02};
-    struct louravela_ran ran = louravela_phy_run(fresh, bad_event, sizeof bad_event, ROOM, lend(), ROOM);
+    struct louravela_run_reply ran = louravela_phy_run(fresh, bad_event, sizeof bad_event, ROOM, lend(), ROOM);
 
     EXPECT_RAN(ran, 1, LOURAVELA_STOPPED_AT_FAULT, LOURAVELA_BAD_EVENT, 1);
     ran = louravela_phy_run(fresh, sample, 7, ROOM, lend(), ROOM);
@@ -89,7 +89,7 @@ static void test_run_refusals(void)
     struct louravela_phy accept = fresh;
 
     invalid.timer = 1;
-    closed.closed = 2;
+    closed.far_closed = 2;
     accept.accept = UINT64_MAX;
     EXPECT_RUN_REFUSED(fresh, 3, 2, LOURAVELA_NO_ROOM);
     EXPECT_RUN_REFUSED(fresh, SIZE_MAX, ROOM, LOURAVELA_NO_ROOM);
@@ -106,7 +106,7 @@ static void test_run_refusals(void)
 
 static void expect_nothing(int line, const uint8_t *trace, size_t length, size_t place, uint64_t how, uint64_t refusal)
 {
-    struct louravela_event_found found = louravela_event_read(trace, length, place);
+    struct louravela_event_reply found = louravela_event_read(trace, length, place);
     struct louravela_event none = {0};
 
     expect(line, "what stands there", found.how, how);
@@ -121,7 +121,7 @@ static void expect_nothing(int line, const uint8_t *trace, size_t length, size_t
 
 static void test_event_reads(void)
 {
-    struct louravela_event_found found = louravela_event_read(sample, sizeof sample, 0);
+    struct louravela_event_reply found = louravela_event_read(sample, sizeof sample, 0);
     struct louravela_event wanted = {LOURAVELA_TX_OPEN, 5, 1, 9, 300, 0, 0};
     static const uint8_t code_16[] = {0x10};
     static const uint8_t rate_7[] = {0x01, 0x05, 0x01, 0x07};
@@ -147,7 +147,7 @@ static void test_event_reads(void)
 
 static void expect_event_refused(int line, struct louravela_event event, size_t length, size_t place, uint64_t refusal)
 {
-    struct louravela_event_written written = louravela_event_write(event, lend(), length, place);
+    struct louravela_write_reply written = louravela_event_write(event, lend(), length, place);
 
     expect(line, "the refusal", written.refusal, refusal);
     expect(line, "the length", written.length, 0);
@@ -160,7 +160,7 @@ static void test_event_writes(void)
 {
     struct louravela_event event = {LOURAVELA_TX_OPEN, 5, 1, 9, 300, 0, 0};
     struct louravela_event unknown = event_of(0);
-    struct louravela_event_written written = louravela_event_write(event, lend(), 8, 0);
+    struct louravela_write_reply written = louravela_event_write(event, lend(), 8, 0);
 
     EXPECT(written.refusal, 0);
     EXPECT(written.length, 8);
@@ -184,7 +184,7 @@ static void test_event_writes(void)
 
 static void expect_no_number(int line, const uint8_t *bytes, size_t length, size_t place, uint64_t refusal)
 {
-    struct louravela_number_found found = louravela_number_read(bytes, length, place);
+    struct louravela_number_reply found = louravela_number_read(bytes, length, place);
 
     expect(line, "the refusal", found.refusal, refusal);
     expect(line, "the value", found.value, 0);
@@ -201,7 +201,7 @@ static void test_number_reads(void)
     static const uint8_t m12[] = {0x80, 0x00};
     static const uint8_t tenth_zero[] = {0xFF, 0xFF, 0xFF, 0xFF, 0xFF, 0xFF, 0xFF, 0xFF, 0xFF, 0x00};
     static const uint8_t tenth_two[] = {0x80, 0x80, 0x80, 0x80, 0x80, 0x80, 0x80, 0x80, 0x80, 0x02};
-    struct louravela_number_found found = louravela_number_read(m11, sizeof m11, 0);
+    struct louravela_number_reply found = louravela_number_read(m11, sizeof m11, 0);
 
     EXPECT(found.value, 300);
     EXPECT(found.next, 2);
@@ -221,7 +221,7 @@ static void test_number_reads(void)
 
 static void expect_number_refused(int line, uint64_t value, size_t length, size_t place)
 {
-    struct louravela_number_written written = louravela_number_write(value, lend(), length, place);
+    struct louravela_write_reply written = louravela_number_write(value, lend(), length, place);
 
     expect(line, "the refusal", written.refusal, LOURAVELA_NO_ROOM);
     expect(line, "the length", written.length, 0);
@@ -232,7 +232,7 @@ static void expect_number_refused(int line, uint64_t value, size_t length, size_
 
 static void test_number_writes(void)
 {
-    struct louravela_number_written written = louravela_number_write(UINT64_MAX, lend(), 10, 0);
+    struct louravela_write_reply written = louravela_number_write(UINT64_MAX, lend(), 10, 0);
 
     EXPECT(written.length, 10);
     EXPECT(written.refusal, 0);

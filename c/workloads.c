@@ -126,7 +126,7 @@ static void prepare_nothing(size_t count)
 
 static uint64_t our_run(size_t count)
 {
-    struct louravela_ran ran = louravela_phy_run(louravela_phy_fresh(), trace, trace_length, count, lent, count);
+    struct louravela_run_reply ran = louravela_phy_run(louravela_phy_fresh(), trace, trace_length, count, lent, count);
 
     return ran.count + lent[count - 1];
 }
@@ -174,7 +174,7 @@ static uint64_t our_event_reads(size_t count)
     size_t place = 0;
 
     while (count-- > 0) {
-        struct louravela_event_found found = louravela_event_read(trace, trace_length, place);
+        struct louravela_event_reply found = louravela_event_read(trace, trace_length, place);
 
         place = found.next;
         sum += found.event.code + found.event.first;
@@ -222,7 +222,7 @@ static uint64_t our_reads(size_t count)
     size_t place = 0;
 
     while (count-- > 0) {
-        struct louravela_number_found found = louravela_number_read(trace, trace_length, place);
+        struct louravela_number_reply found = louravela_number_read(trace, trace_length, place);
 
         place = found.next;
         sum += found.value;

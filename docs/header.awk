@@ -10,6 +10,15 @@ function scalar(type) {
     return ""
 }
 
+# The name that C gives a field: the crates write farClosed, since a definition has no plain name for far_closed.
+function snake(name,    i, c, said) {
+    for (i = 1; i <= length(name); i++) {
+        c = substr(name, i, 1)
+        said = said (c ~ /[A-Z]/ ? "_" tolower(c) : c)
+    }
+    return said
+}
+
 # A type of a crate, written out.
 function of_crate(crate, type,    full, part, i, n, said) {
     if (scalar(type) != "") return scalar(type)
@@ -20,7 +29,7 @@ function of_crate(crate, type,    full, part, i, n, said) {
     sub(/.*::/, "", type)
     n = split(fields[crate "::" type], part, ",")
     for (i = 1; i < n; i += 2)
-        said = said "; " (scalar(part[i + 1]) != "" ? scalar(part[i + 1]) " " part[i] : of_crate(crate, part[i + 1]))
+        said = said "; " (scalar(part[i + 1]) != "" ? scalar(part[i + 1]) " " snake(part[i]) : of_crate(crate, part[i + 1]))
     return substr(said, 3)
 }
 

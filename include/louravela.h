@@ -24,7 +24,7 @@
 #include <stdint.h>
 
 /* The version of this header and of the archives that are built beside it. */
-#define LOURAVELA_VERSION "4.1.0"
+#define LOURAVELA_VERSION "4.2.0"
 
 #ifdef __cplusplus
 extern "C" {
@@ -33,7 +33,7 @@ extern "C" {
 /* ---- Numbers of refusal; 0 says that nothing is refused ---- */
 
 enum {
-    LOURAVELA_TAKEN = 0,
+    LOURAVELA_NOT_REFUSED = 0,
     LOURAVELA_BAD_STATE = 1,       /* the state handed in is not a valid one; none with a flag that is neither 0 nor 1 is */
     LOURAVELA_BAD_EVENT = 2,       /* unknown code, an argument out of range, or one that the event lacks and is not 0 */
     LOURAVELA_BUSY = 3,            /* Tx Open, and the port is not in P1 */
@@ -138,7 +138,7 @@ struct louravela_open {
     uint64_t protocol;
     uint64_t rate;
     uint64_t tag;
-    uint64_t blocked;
+    uint64_t blocked_count;
     uint64_t wait;
 };
 
@@ -149,10 +149,10 @@ struct louravela_phy {
     uint64_t timer;                /* ticks left, 1 to 1,000, in L1, L4 and L5 */
     struct louravela_open request; /* in P2 and P4, its wait as it has grown */
     uint64_t reason;               /* in P4: the answer that it is waiting to give */
-    uint64_t source;               /* in L2: who opens us */
-    uint64_t inbound;              /* in L2: and by which protocol */
-    uint64_t connection;           /* in P3: the connection's protocol */
-    uint64_t closed;               /* a flag, in L3: the far end has closed */
+    uint64_t inbound_source;       /* in L2: who opens us */
+    uint64_t inbound_protocol;     /* in L2: and by which protocol */
+    uint64_t connection_protocol;  /* in P3 */
+    uint64_t far_closed;           /* a flag, in L3: the far end has closed */
     uint64_t accept;               /* a flag: inbound opens are accepted */
 };
 
@@ -188,7 +188,7 @@ enum {
  * What a run gives. `refusal` is looked at first: a refused run took nothing, its phy is the one given, and every
  * other field is zero, `how` too, so that `how` alone would say that the trace had ended.
  */
-struct louravela_ran {
+struct louravela_run_reply {
     struct louravela_phy next;
     size_t count;     /* events taken; a refused event counts as taken */
     uint64_t how;     /* where nothing is refused */
@@ -208,8 +208,8 @@ struct louravela_stepped louravela_phy_step(struct louravela_phy phy, struct lou
  * that order. For each event taken one byte of the buffer is written: its refusal, or else its answer,
  * or else 0. Later bytes keep their values. A buffer shorter than the budget is refused with 10.
  */
-struct louravela_ran louravela_phy_run(struct louravela_phy phy, const uint8_t *trace, size_t trace_length,
-                                       size_t budget, uint8_t *buffer, size_t buffer_length);
+struct louravela_run_reply louravela_phy_run(struct louravela_phy phy, const uint8_t *trace, size_t trace_length,
+                                             size_t budget, uint8_t *buffer, size_t buffer_length);
 
 /* ---- Events of a trace ---- */
 
@@ -221,52 +221,48 @@ enum {
 };
 
 /* At the end and on a fault the event is zero and `next` is the place given. */
-struct louravela_event_found {
+struct louravela_event_reply {
     struct louravela_event event;
     size_t next;      /* the place after the event */
     uint64_t how;
     uint64_t refusal; /* on a fault its number, 2, 7, 8 or 9, else 0 */
 };
 
-struct louravela_event_written {
+/* What writing an event or a number gives. */
+struct louravela_write_reply {
     size_t length;    /* bytes written; refused, 0 */
-    uint64_t refusal; /* 0, 2 or 10 */
+    uint64_t refusal; /* 0 or 10, and for an event also 2 */
 };
 
 /* The event at any place; at the trace's end or past it the trace has ended. */
-struct louravela_event_found louravela_event_read(const uint8_t *trace, size_t trace_length, size_t place);
+struct louravela_event_reply louravela_event_read(const uint8_t *trace, size_t trace_length, size_t place);
 
 /* An event's bytes at a place of a buffer. Refused, no byte is changed. */
-struct louravela_event_written louravela_event_write(struct louravela_event event, uint8_t *buffer, size_t buffer_length,
-                                                     size_t place);
+struct louravela_write_reply louravela_event_write(struct louravela_event event, uint8_t *buffer, size_t buffer_length,
+                                                   size_t place);
 
 /* ---- Numbers of a trace: groups of seven bits, lowest first, the high bit set if another follows ---- */
 
 /* On a fault the value is 0 and `next` is the place given. */
-struct louravela_number_found {
+struct louravela_number_reply {
     uint64_t value;
     size_t next;      /* the place after the number */
     uint64_t refusal; /* 0, 7, 8 or 9 */
 };
 
-struct louravela_number_written {
-    size_t length;    /* bytes written, 1 to 10; refused, 0 */
-    uint64_t refusal; /* 0 or 10 */
-};
-
 /* The number at any place; at the end or past it, it is cut. */
-struct louravela_number_found louravela_number_read(const uint8_t *bytes, size_t length, size_t place);
+struct louravela_number_reply louravela_number_read(const uint8_t *bytes, size_t length, size_t place);
 
-/* A value's bytes at a place of a buffer. Refused, no byte is changed. */
-struct louravela_number_written louravela_number_write(uint64_t value, uint8_t *buffer, size_t buffer_length,
-                                                       size_t place);
+/* A value's bytes, 1 to 10, at a place of a buffer. Refused, no byte is changed. */
+struct louravela_write_reply louravela_number_write(uint64_t value, uint8_t *buffer, size_t buffer_length,
+                                                    size_t place);
 
 /* ---- Dword synchronization: states 0 to 9 ---- */
 
 enum {
-    LOURAVELA_DWS_INVALID = 0,   /* an invalid dword */
-    LOURAVELA_DWS_DATA = 1,      /* a valid data dword */
-    LOURAVELA_DWS_PRIMITIVE = 2, /* a valid primitive */
+    LOURAVELA_DWS_INVALID_DWORD = 0, /* an invalid dword */
+    LOURAVELA_DWS_DATA_DWORD = 1,    /* a valid data dword */
+    LOURAVELA_DWS_PRIMITIVE = 2,     /* a valid primitive */
     LOURAVELA_DWS_RESTART = 3
 };
 
@@ -317,7 +313,7 @@ enum {
     LOURAVELA_IDENTIFY_RESET_RECEIVED = 4
 };
 
-struct louravela_identify {
+struct louravela_identification {
     uint64_t receiver;
     uint64_t count;   /* data dwords, 0 to 8, while Receiving */
     uint64_t timer;   /* ticks left, 1 to 1,000, while the other side's frame is awaited */
@@ -328,15 +324,15 @@ struct louravela_identify {
 };
 
 struct louravela_identify_stepped {
-    struct louravela_identify next;
+    struct louravela_identification next;
     uint64_t report;
     uint64_t refusal; /* 0, 1 or 2 */
 };
 
 /* The fresh state: Idle, all else unset. */
-struct louravela_identify louravela_identify_fresh(void);
+struct louravela_identification louravela_identify_fresh(void);
 
-struct louravela_identify_stepped louravela_identify_step(struct louravela_identify state, uint64_t event,
+struct louravela_identify_stepped louravela_identify_step(struct louravela_identification state, uint64_t event,
                                                           uint64_t argument);
 
 #ifdef __cplusplus

@@ -62,7 +62,7 @@ const struct identify_item identify_scripts[][IDENTIFY_SCRIPT_ITEMS] = {
     /* Dwords and EOAF without an SOAF. */
     {{3, IDENTIFY_DATA_DWORD, 0}, {1, IDENTIFY_EOAF, 1}, {1, IDENTIFY_EOAF, 0},
      {1, IDENTIFY_OTHER_PRIMITIVE, 0}, {1, IDENTIFY_TICK, 0}, {1, IDENTIFY_ENABLE, 0}},
-    /* Time-out at the thousandth tick, in the middle of a frame; a second own frame starts nothing. */
+    /* Time-out at the thousandth tick, in the middle of a frame; our second frame starts nothing. */
     {{1, IDENTIFY_FRAME_SENT, 0}, {500, IDENTIFY_TICK, 0}, {1, IDENTIFY_FRAME_SENT, 0},
      {499, IDENTIFY_TICK, 0}, {1, IDENTIFY_SOAF, 0}, {3, IDENTIFY_DATA_DWORD, 0}, {2, IDENTIFY_TICK, 0},
      {5, IDENTIFY_DATA_DWORD, 0}, {1, IDENTIFY_EOAF, 1}, {1, IDENTIFY_HARD_RESET, 0},

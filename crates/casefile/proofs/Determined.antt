@@ -1,28 +1,20 @@
--- Each contract equates the result, and the bytes left, with a definition of what was given, so two that it allows coincide.
-use mathlib.Core.Path.{_≡_, refl, sym, _∙_}
-use Rattle.casefile.specs.Laws.{TakeDetermined, BytesDetermined, ManyDetermined, PhyDetermined, PhyNumbersDetermined, EventDetermined, PhyBack}
+-- Each contract equates the result, and what is left, with a definition of what was given, so two that it allows coincide.
+use mathlib.Core.Path.{refl}
+use Rattle.table.proofs.Results.{by-equation, by-result, by-result-lent}
+use Rattle.casefile.specs.Laws.{Determined, PhyBack}
+use Rattle.casefile.proofs.Sliding.{case-determined}
 
--- two that equal a third
-both : {A : Type 0} {a b c : A} → a ≡ c → b ≡ c → a ≡ b
-both p q = p ∙ sym q
-
-pub take-determined : TakeDetermined
-take-determined s place r q a b = both (a .says) (b .says)
-
-pub bytes-determined : BytesDetermined
-bytes-determined s place r q a b = both (a .says) (b .says)
-
-pub many-determined : ManyDetermined
-many-determined s place before r q after later a b = (both (a .there) (b .there), both (a .numbers) (b .numbers))
-
-pub phy-determined : PhyDetermined
-phy-determined f r q a b = both a b
-
-pub phy-numbers-determined : PhyNumbersDetermined
-phy-numbers-determined p r q a b = both a b
-
-pub event-determined : EventDetermined
-event-determined f r q a b = both a b
+pub determined : Determined
+determined =
+    record {
+      take = λ s place. by-result (λ r a. a .says);
+      take-bytes = λ s place. by-result (λ r a. a .says);
+      take-many = λ s place before. by-result-lent (λ r q e. e) (λ r after a. record { says = a .there; leaves = a .numbers });
+      phy-of = λ f. by-equation _;
+      phy-numbers = λ p. by-equation _;
+      event-of = λ f. by-equation _;
+      next-case = case-determined;
+    }
 
 pub phy-back : PhyBack
 phy-back p = refl

@@ -1,5 +1,5 @@
 -- The invariant of taking many numbers: those stored and those still to be taken from here are all of them.
-use Prim.Native.Nat.{ℕ, suc, _+_, _-_, _≤_, _<_}
+use Prim.Native.Nat.{ℕ, suc, _+_, _-_, _≤_, _<_, max}
 use mathlib.Core.List.{List, _++_, append-nil}
 use mathlib.Core.Path.{_≡_, refl, sym, ap, _∙_}
 use native.Mathlib.Numerals.{add-one}
@@ -25,10 +25,11 @@ pub record Taking (s : List ℕ) (place : ℕ) (before numbers : List ℕ) (next
   pub here : i + left ≡ length before
   pub long : length numbers ≡ length before
   pub there : placeAfter left s next ≡ placeAfter (length before) s place
+  pub within : next ≤ max place (length s)
   pub found : take i numbers ++ numbersAt left s next ≡ numbersAt (length before) s place
 
 pub taking-start : (s : List ℕ) (place : ℕ) (before : List ℕ) → Taking s place before before place 0
-taking-start s place before = record { left = length before; here = omega arith; long = refl; there = refl; found = refl }
+taking-start s place before = record { left = length before; here = omega arith; long = refl; there = refl; within = omega arith; found = refl }
 
 module _ {s : List ℕ} {place : ℕ} {before numbers : List ℕ} {next i : ℕ} (t : Taking s place before numbers next i) where
   pub taking-on : i < length numbers → {r : Taken} → TakesNumber s next r → Taking s place before (set numbers i (r .value)) (r .next) (i + 1)
@@ -41,6 +42,7 @@ module _ {s : List ℕ} {place : ℕ} {before numbers : List ℕ} {next i : ℕ}
         here = omega (arith, t .here);
         long = length-set numbers i (r .value) ∙ t .long;
         there = rw (n .says) (rw one at (t .there));
+        within = omega (arith, n .within);
         found =
             rw (add-one, take-suc-set numbers i (r .value) h)
             (append-snoc (take i numbers) (r .value) (numbersAt l s (r .next)) ∙ rw (n .says) (rw one at (t .found)));
@@ -52,5 +54,6 @@ module _ {s : List ℕ} {place : ℕ} {before numbers : List ℕ} {next i : ℕ}
       let none : t .left ≡ 0 = omega (arith, t .here, t .long) in
       record {
         there = rw none at (t .there);
+        within = t .within;
         numbers = sym (append-nil numbers) ∙ rw (take-all i numbers h, none) at (t .found);
       }

@@ -1,19 +1,24 @@
 -- Sliding the window goes by two tests, and in each case what was ahead stands where the answer says.
 use Prim.Native.Nat.{ℕ, _+_, _-_, _≤_, _<_, min}
-use mathlib.Core.Bool.{true, false}
+use mathlib.Core.Bool.{true, false, _||_}
 use mathlib.Core.List.{List}
-use mathlib.Core.Path.{_≡_, refl, sym, _∙_}
+use mathlib.Core.Path.{_≡_, refl, sym, ap, _∙_}
 use native.Mathlib.Omega.{arith}
 use borrow.Author.Tests.{lt-ltb, le-ltb, ltb-true, eqb-true, eqb-false, eq-eqb, ne-eqb}
 use borrow.Rule.Slice.PartMut.{midOf, putMid, same-len-mid, mid-len, take-put}
 use lib.Dec.{eqb}
 use lib.ListN.{length, take, drop-of-length-le}
 use lib.Seq.{slice, length-slice, take-take, take-all, take-length, length-take-le}
+use Rattle.table.specs.Choice.{pick}
+use Rattle.table.specs.Results.{DeterminesLent, Leaves}
 use Rattle.table.proofs.Laws.{by-test, by-order}
-use Rattle.casefile.specs.Window.{endAhead, noneAhead, enoughAhead}
-use Rattle.casefile.specs.Contracts.{MovesToFront, Stays, ReadsOn, Slides}
-use Rattle.casefile.specs.Laws.{AheadKept, SlideDetermined}
+use Rattle.table.proofs.Results.{by-equation-lent}
+use Rattle.casefile.specs.Window.{endAhead, noneAhead, enoughAhead, aheadOf, aheadAfter, isOver}
+use Rattle.casefile.specs.Contracts.{MovesToFront, ReadsOn, Slides, GoesOn}
+use Rattle.casefile.specs.Laws.{AheadKept}
 use Rattle.casefile.specs.declared.Ahead.{Ahead}
+use Rattle.casefile.specs.declared.Place.{Place}
+use Rattle.casefile.specs.declared.Turn.{Turn}
 
 -- a count is the same after nothing was added
 added : (kept more : ℕ) → eqb more 0 ≡ eqb (kept + more) kept
@@ -34,7 +39,7 @@ module _ (before : List ℕ) (ahead : Ahead) where
       record {
         ordered = omega arith;
         within = omega arith;
-        does = rw (lt-ltb _ _ h) (record { says = refl; same = refl });
+        does = rw (lt-ltb _ _ h) (record { says = refl; leaves = refl });
       }
 
   module _ (h : ahead .from ≤ endAhead before ahead) where
@@ -42,7 +47,7 @@ module _ (before : List ℕ) (ahead : Ahead) where
         enoughAhead before ahead ≡ true
         → Slides before ahead (record { from = ahead .from; to = endAhead before ahead; ended = ahead .ended }) before
     enough-ahead e =
-        record { ordered = h; within = omega arith; does = rw (le-ltb _ _ h, e) (record { says = refl; same = refl }) }
+        record { ordered = h; within = omega arith; does = rw (le-ltb _ _ h, e) (record { says = refl; leaves = refl }) }
 
     -- what is read comes behind what was moved to the front
     pub more-ahead :
@@ -88,19 +93,25 @@ ahead-kept before ahead r after s =
     rw (part, drop-of-length-le (take to before) short))
     (λ f.
     by-test (enoughAhead before ahead)
-    (λ t. let d : Stays before _ r after = rw (f, t) at (s .does) in rw (d .says, d .same, part, take-length))
+    (λ t. let d : Leaves r _ after before = rw (f, t) at (s .does) in rw (d .says, d .leaves, part, take-length))
     (λ g.
     let d : ReadsOn before ahead r after = rw (f, g) at (s .does) in
     rw (part, length-slice from to before (omega arith), d .start) (take-take (to - from) (r .to) after (d .more) ∙ d .front)))
 
-stay :
-    {before : List ℕ} {ahead r q : Ahead} {after later : List ℕ} → Stays before ahead r after → Stays before ahead q later
-    → (r ≡ q) × (after ≡ later)
-stay a b = (a .says ∙ sym (b .says), a .same ∙ sym (b .same))
-
-pub slide-determined : SlideDetermined
-slide-determined before ahead r q after later h a b =
-    by-test (noneAhead before ahead) (λ t. stay (rw t at (a .does)) (rw t at (b .does)))
+-- nothing is read where nothing or enough is ahead, and then the answer and the window are the definition's
+slide-determined :
+    (before : List ℕ) (ahead : Ahead) → noneAhead before ahead || enoughAhead before ahead ≡ true → DeterminesLent (Slides before ahead)
+slide-determined before ahead h r q after later a b =
+    by-test (noneAhead before ahead) (λ t. by-equation-lent _ _ r q after later (rw t at (a .does)) (rw t at (b .does)))
     (λ f.
     let t : enoughAhead before ahead ≡ true = rw f at h in
-    stay (rw (f, t) at (a .does)) (rw (f, t) at (b .does)))
+    by-equation-lent _ _ r q after later (rw (f, t) at (a .does)) (rw (f, t) at (b .does)))
+
+pub case-determined :
+    (before : List ℕ) (turn : Turn) (at : Place) → noneAhead before (aheadAfter turn at) || enoughAhead before (aheadAfter turn at) ≡ true
+    → DeterminesLent (GoesOn before turn at)
+case-determined before turn at h r q after later a b =
+    let same : (aheadOf r ≡ aheadOf q) × (after ≡ later) = slide-determined before (aheadAfter turn at) h _ _ after later (a .slides) (b .slides) in
+    let left : r .left ≡ q .left = a .counted ∙ ap (λ (x : Ahead). pick (isOver at x) 0 (turn .left - 1)) (same .0) ∙ sym (b .counted) in
+    let n : r .n ≡ q .n = cc in
+    (λ i. record { left = left i; from = same .0 i .from; to = same .0 i .to; ended = same .0 i .ended; n = n i }, same .1)

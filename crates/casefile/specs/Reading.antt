@@ -18,7 +18,11 @@ taken s place = takenOf (length s) (readNumber s place)
 
 -- the byte string at a place: after its length that many bytes, as far as the file has them
 abbrev pub partAt : List ℕ → ℕ → Part
-partAt s place = record { from = taken s place .next; to = reached (length s) (taken s place .next) (taken s place .value) }
+partAt s place =
+    record {
+      from = taken s place .next;
+      to = reached (length s) (taken s place .next) (taken s place .value);
+    }
 
 -- so many numbers from a place on
 unfoldable pub numbersAt : (count : ℕ) → List ℕ → ℕ → List ℕ

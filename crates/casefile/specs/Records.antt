@@ -16,19 +16,27 @@ phyNumbers p =
     ∷ p .request .protocol
     ∷ p .request .rate
     ∷ p .request .tag
-    ∷ p .request .blocked
+    ∷ p .request .blockedCount
     ∷ p .request .wait
     ∷ p .reason
-    ∷ p .source
-    ∷ p .inbound
-    ∷ p .connection
-    ∷ p .closed
+    ∷ p .inboundSource
+    ∷ p .inboundProtocol
+    ∷ p .connectionProtocol
+    ∷ p .farClosed
     ∷ p .settings .accept
     ∷ []
 
 -- a phy's request, of its numbers
 abbrev pub requestOf : List ℕ → Open
-requestOf f = record { destination = getD f 3 0; protocol = getD f 4 0; rate = getD f 5 0; tag = getD f 6 0; blocked = getD f 7 0; wait = getD f 8 0 }
+requestOf f =
+    record {
+      destination = getD f 3 0;
+      protocol = getD f 4 0;
+      rate = getD f 5 0;
+      tag = getD f 6 0;
+      blockedCount = getD f 7 0;
+      wait = getD f 8 0;
+    }
 
 -- the phy of numbers
 abbrev pub phyOf : List ℕ → Phy
@@ -39,13 +47,22 @@ phyOf f =
       timer = getD f 2 0;
       request = requestOf f;
       reason = getD f 9 0;
-      source = getD f 10 0;
-      inbound = getD f 11 0;
-      connection = getD f 12 0;
-      closed = getD f 13 0;
+      inboundSource = getD f 10 0;
+      inboundProtocol = getD f 11 0;
+      connectionProtocol = getD f 12 0;
+      farClosed = getD f 13 0;
       settings = record { accept = getD f 14 0 };
     }
 
 -- the event of numbers: its code and six arguments
 abbrev pub eventOf : List ℕ → Event
-eventOf f = record { code = getD f 0 0; first = getD f 1 0; second = getD f 2 0; third = getD f 3 0; fourth = getD f 4 0; fifth = getD f 5 0; sixth = getD f 6 0 }
+eventOf f =
+    record {
+      code = getD f 0 0;
+      first = getD f 1 0;
+      second = getD f 2 0;
+      third = getD f 3 0;
+      fourth = getD f 4 0;
+      fifth = getD f 5 0;
+      sixth = getD f 6 0;
+    }

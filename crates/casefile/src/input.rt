@@ -47,7 +47,7 @@ pub fn take_bytes(s: &[u8], place: usize) -> Part
     }
 }
 
-// A number for each place of an array; what it answers is where the next one stands.
+// A number for each place of an array; it gives the place of the next one.
 pub fn take_many(s: &[u8], place: usize, numbers: &mut [u64]) -> usize
     ensures { λ r. ⌜ TakesNumbers (now (s .entry)) place (now (numbers .entry)) r (now (numbers .exit)) ⌝ }
 {

@@ -10,7 +10,7 @@ pub use input::take_many;
 pub use records::event_of;
 pub use records::phy_numbers;
 pub use records::phy_of;
-pub use window::slide;
+pub use window::next_case;
 
 // The numbers of a phy.
 pub const PHY_NUMBERS: usize = 15;
@@ -37,8 +37,27 @@ pub struct Part {
 }
 
 // The part of the window that holds what is to come, and whether the file has ended.
-pub struct Ahead {
+pub(crate) struct Ahead {
+    pub(crate) from: usize,
+    pub(crate) to: usize,
+    pub(crate) ended: bool,
+}
+
+// A turn of a run, which takes the case at `from`: the part of the window that holds what is to come,
+// whether the file has ended, and how much output is gathered. Where no turn is left the run is over.
+pub struct Turn {
+    pub left: u64,
     pub from: usize,
     pub to: usize,
     pub ended: bool,
+    pub n: usize,
 }
+
+// The first turn of a run: nothing is read yet, and more turns may come than any case file has cases.
+pub const START: Turn = Turn {
+    left: 4294967296,
+    from: 0,
+    to: 0,
+    ended: false,
+    n: 0,
+};

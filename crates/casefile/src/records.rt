@@ -15,7 +15,7 @@ pub fn phy_of(f: [u64; PHY_NUMBERS]) -> Phy
         protocol: f[4],
         rate: f[5],
         tag: f[6],
-        blocked: f[7],
+        blockedCount: f[7],
         wait: f[8],
     };
     let settings = Settings { accept: f[14] };
@@ -25,15 +25,15 @@ pub fn phy_of(f: [u64; PHY_NUMBERS]) -> Phy
         timer: f[2],
         request,
         reason: f[9],
-        source: f[10],
-        inbound: f[11],
-        connection: f[12],
-        closed: f[13],
+        inboundSource: f[10],
+        inboundProtocol: f[11],
+        connectionProtocol: f[12],
+        farClosed: f[13],
         settings,
     }
 }
 
-// The numbers that a phy is made of again.
+// The numbers from which `phy_of` makes the phy again.
 pub fn phy_numbers(p: Phy) -> [u64; PHY_NUMBERS]
     ensures { λ r. ⌜ GivesNumbers p r ⌝ }
 {
@@ -47,13 +47,13 @@ pub fn phy_numbers(p: Phy) -> [u64; PHY_NUMBERS]
         request.protocol,
         request.rate,
         request.tag,
-        request.blocked,
+        request.blockedCount,
         request.wait,
         p.reason,
-        p.source,
-        p.inbound,
-        p.connection,
-        p.closed,
+        p.inboundSource,
+        p.inboundProtocol,
+        p.connectionProtocol,
+        p.farClosed,
         settings.accept,
     ]
 }

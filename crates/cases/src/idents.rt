@@ -1,19 +1,23 @@
-// Cases of the crate `identify`: a walk of steps, each from the identification that the one before
-// gave.
-use casefile::Place;
+// Steps of the crate `identify`.
+ghost use Prim.Native.Nat.{_≤_};
+ghost use mathlib.Core.Path.{_≡_};
+ghost use lib.ListN.{length, getD};
+use crate::walks::Walk;
+use casefile::PHY_NUMBERS;
 use casefile::take;
-use casefile::take_many;
 use identify::Identification;
 use identify::Stepped;
 use output::put_line;
 
 // The numbers of an identification, in the case file and in a line: in the paper's order, which is not
 // the record's.
-const FIELDS: usize = 7;
+pub(crate) const FIELDS: usize = 7;
 
 const LINE: usize = 9;
 
-fn identification(f: [u64; FIELDS]) -> Identification {
+pub(crate) fn identification(f: [u64; PHY_NUMBERS]) -> Identification
+    ensures { λ r. ⌜ r ≡ record { receiver = getD f 0 0; count = getD f 1 0; typed = getD f 2 0; got = getD f 3 0; sent = getD f 4 0; timer = getD f 5 0; outcome = getD f 6 0 } ⌝ }
+{
     Identification {
         receiver: f[0],
         count: f[1],
@@ -41,25 +45,18 @@ fn line(r: Stepped) -> [u64; LINE] {
     ]
 }
 
-// identification, count, events with an argument: for each the refusal, the report and the
-// identification
-pub fn walk_case(s: &[u8], kind: u64, place: usize, out: &mut [u8], n: usize) -> Place {
-    let mut fields = [0u64; FIELDS];
-    let first = take_many(s, place, &mut fields);
-    let count = take(s, first);
-    let mut left = count.value;
-    let mut state = identification(fields);
-    let mut next = count.next;
-    let mut end = n;
-    while 0 < left {
-        left -= 1;
-        let event = take(s, next);
-        let argument = take(s, event.next);
-        next = argument.next;
-        let r = identify::step(state, event.value, argument.value);
-        state = r.next;
-        let said = line(r);
-        end = put_line(out, end, kind, &said);
-    }
-    Place { next, n: end }
+// event, argument: the refusal, the report and the identification
+pub(crate) fn one_step(s: &[u8], kind: u64, walk: Walk, out: &mut [u8]) -> Walk
+    ensures { λ r. ⌜ r .next ≤ length (now (s .entry)) ⌝ }
+{
+    let event = take(s, walk.next);
+    let argument = take(s, event.next);
+    let r = identify::step(walk.identification, event.value, argument.value);
+    let said = line(r);
+    let next = r.next;
+    let mut after = walk;
+    after.identification = next;
+    after.next = argument.next;
+    after.n = put_line(out, walk.n, kind, &said);
+    after
 }

@@ -1,4 +1,5 @@
 // Cases of the crate `number`: reading at a place of a byte string, writing into a buffer.
+ghost use Rattle.casefile.specs.Contracts.{EndsWithin};
 use casefile::Place;
 use casefile::take;
 use casefile::take_bytes;
@@ -12,7 +13,9 @@ use output::put_numbers;
 const MOST_BUFFER: usize = 64;
 
 // place, bytes: refusal, value, place after it
-pub fn read_case(s: &[u8], kind: u64, place: usize, out: &mut [u8], n: usize) -> Place {
+pub(crate) fn read_case(s: &[u8], kind: u64, place: usize, out: &mut [u8], n: usize) -> Place
+    ensures { λ r. ⌜ EndsWithin (now (s .entry)) r ⌝ }
+{
     let at = take(s, place);
     let part = take_bytes(s, at.next);
     let from = part.from;
@@ -41,7 +44,9 @@ fn write_line(
 }
 
 // value, place, buffer before: refusal, length, buffer after
-pub fn write_case(s: &[u8], kind: u64, place: usize, out: &mut [u8], n: usize) -> Place {
+pub(crate) fn write_case(s: &[u8], kind: u64, place: usize, out: &mut [u8], n: usize) -> Place
+    ensures { λ r. ⌜ EndsWithin (now (s .entry)) r ⌝ }
+{
     let value = take(s, place);
     let at = take(s, value.next);
     let part = take_bytes(s, at.next);

@@ -1,10 +1,10 @@
-// Cases of the crate `phy`: a walk of events, each repeated, from the phy that the one before gave.
+// Items of the crate `phy`: each an event and how many times it comes.
+ghost use Prim.Native.Nat.{_≤_};
+ghost use lib.ListN.{length};
+use crate::walks::Walk;
 use casefile::EVENT_NUMBERS;
-use casefile::PHY_NUMBERS;
-use casefile::Place;
 use casefile::event_of;
 use casefile::phy_numbers;
-use casefile::phy_of;
 use casefile::take;
 use casefile::take_many;
 use event::Event;
@@ -26,7 +26,7 @@ fn put_stepped(out: &mut [u8], n: usize, kind: u64, r: Stepped) -> usize {
         o.protocol,
         o.rate,
         o.tag,
-        o.blocked,
+        o.blockedCount,
         o.wait,
     ];
     let fields = phy_numbers(r.next);
@@ -66,23 +66,18 @@ fn repeat(out: &mut [u8], n: usize, kind: u64, phy: Phy, event: Event, times: u6
     }
 }
 
-// phy, count, items: for each step that has a line the refusal, the reports and the phy
-pub fn walk_case(s: &[u8], kind: u64, place: usize, out: &mut [u8], n: usize) -> Place {
-    let mut fields = [0u64; PHY_NUMBERS];
-    let first = take_many(s, place, &mut fields);
-    let count = take(s, first);
-    let mut left = count.value;
-    let mut state = phy_of(fields);
-    let mut next = count.next;
-    let mut end = n;
-    while 0 < left {
-        left -= 1;
-        let times = take(s, next);
-        let mut item = [0u64; EVENT_NUMBERS];
-        next = take_many(s, times.next, &mut item);
-        let after = repeat(out, end, kind, state, event_of(item), times.value);
-        state = after.next;
-        end = after.n;
-    }
-    Place { next, n: end }
+// times, event: for each step that has a line the refusal, the reports and the phy
+pub(crate) fn one_item(s: &[u8], kind: u64, walk: Walk, out: &mut [u8]) -> Walk
+    ensures { λ r. ⌜ r .next ≤ length (now (s .entry)) ⌝ }
+{
+    let times = take(s, walk.next);
+    let mut item = [0u64; EVENT_NUMBERS];
+    let next = take_many(s, times.next, &mut item);
+    let done = repeat(out, walk.n, kind, walk.phy, event_of(item), times.value);
+    let phy = done.next;
+    let mut after = walk;
+    after.phy = phy;
+    after.next = next;
+    after.n = done.n;
+    after
 }

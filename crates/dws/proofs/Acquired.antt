@@ -11,7 +11,7 @@ use lib.Dec.{T, eqb, leb, ltb, eqb→eq}
 use lib.Ieee.Fits.{and-r}
 use Rattle.table.specs.Choice.{pick}
 use Rattle.table.proofs.Laws.{by-test, by-order, Each, each}
-use Rattle.dws.specs.Names.{acquireSync, valid2, syncAcquired, lost3, invalid, restart, dataDword, primitive, acquired, lost}
+use Rattle.dws.specs.Names.{acquireSync, valid2, syncAcquired, lost3, invalidDword, restart, dataDword, primitive, acquired, lost}
 use Rattle.dws.specs.Step.{stepOf, nextState, afterInvalid, afterValid, afterPrimitive, reportOf}
 use Rattle.dws.specs.Laws.{Synchronized, run, AllValid, primitives, acquisitions, ThreePrimitives, acquiredStill, LostBetween}
 use Rattle.dws.proofs.Refusals.{by-way, bad-event}
@@ -95,7 +95,7 @@ unfolding reportOf
 entered s event next e =
     by-test (eqb s valid2 && eqb next syncAcquired)
     (λ t. eqb→eq next syncAcquired (and-r (eqb s valid2) (eqb next syncAcquired) (subst T (sym t) tt)))
-    (λ f. by-test (leb lost3 s && eqb next acquireSync && eqb event invalid)
+    (λ f. by-test (leb lost3 s && eqb next acquireSync && eqb event invalidDword)
     (λ t. absurd (omega (arith, rw (f, t) at e)))
     (λ g. absurd (omega (arith, rw (f, g) at e))))
 

@@ -7,7 +7,7 @@ use Rattle.table.specs.Refusals.{badState, badEvent}
 use Rattle.table.proofs.Laws.{by-order, Each, each}
 use Rattle.dws.specs.Names.{lost3Recovered, restart}
 use Rattle.dws.specs.Step.{refused, moved, stepOf, nextState, afterInvalid, afterValid, afterPrimitive, reportOf}
-use Rattle.dws.specs.Laws.{BadStateExactly, BadEventExactly, TakenExactly, RefusedKeeps, StaysValid, RestartQuiet}
+use Rattle.dws.specs.Laws.{BadStateExactly, BadEventExactly, NotRefusedExactly, RefusedKeeps, StaysValid, RestartQuiet}
 use Rattle.dws.specs.declared.Stepped.{Stepped}
 
 -- ---- the three ways of a step
@@ -50,8 +50,8 @@ bad-event-exactly s event = (
   λ h. rw (bad-event s event (h .0) (h .1)),
 )
 
-pub taken-exactly : TakenExactly
-taken-exactly s event = (
+pub not-refused-exactly : NotRefusedExactly
+not-refused-exactly s event = (
   by-way (λ r. r .refusal ≡ 0 → (s ≤ lost3Recovered) × (event ≤ restart)) s event (λ h e. absurd (omega arith)) (λ h k e. absurd (omega arith)) (λ h k e. (h, k)),
   λ h. rw (taken s event (h .0) (h .1)),
 )

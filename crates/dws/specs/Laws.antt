@@ -1,4 +1,4 @@
--- What is promised of dword synchronization beyond the contract. Each statement is proved in proofs/ under its own name.
+-- What is promised of dword synchronization beyond the contracts. A heading names the file of proofs/.
 use Prim.Native.Nat.{ℕ, _+_, _-_, _≤_, _<_, min}
 use mathlib.Core.Bool.{Bool, true, false, _||_}
 use mathlib.Core.List.{List, [], _∷_}
@@ -8,20 +8,18 @@ use lib.Dec.{eqb}
 use lib.ListN.{length}
 use Rattle.table.specs.Choice.{pick, Row, _⇒_, rows}
 use Rattle.table.specs.Refusals.{badState, badEvent}
-use Rattle.dws.specs.Names.{syncAcquired, lost1, lost1Recovered, lost2, lost2Recovered, lost3, lost3Recovered, invalid, dataDword, primitive, restart, noReport, acquired, lost}
+use Rattle.table.specs.Results.{Determines}
+use Rattle.dws.specs.Names.{syncAcquired, lost1, lost1Recovered, lost2, lost2Recovered, lost3, lost3Recovered}
+use Rattle.dws.specs.Names.{invalidDword, dataDword, primitive, restart, noReport, acquired, lost}
 use Rattle.dws.specs.Step.{freshState, refused, stepOf}
 use Rattle.dws.specs.Contracts.{StartsFresh, Steps}
-use Rattle.dws.specs.declared.Stepped.{Stepped}
 
 -- ---- results are determined (proofs/Determined)
 
--- two results that `fresh` may give coincide
-abbrev pub FreshDetermined : Type 0
-FreshDetermined = (r q : ℕ) → StartsFresh r → StartsFresh q → r ≡ q
-
--- two results that `step` may give coincide
-abbrev pub StepDetermined : Type 0
-StepDetermined = (s event : ℕ) (r q : Stepped) → Steps s event r → Steps s event q → r ≡ q
+-- two results that a function may give coincide
+pub record Determined : Type 0 where
+  pub fresh : Determines StartsFresh
+  pub step : (s event : ℕ) → Determines (Steps s event)
 
 -- ---- each refusal exactly when (proofs/Refusals)
 
@@ -34,8 +32,8 @@ abbrev pub BadEventExactly : Type 0
 BadEventExactly = (s event : ℕ) → stepOf s event .refusal ≡ badEvent ↔ (s ≤ lost3Recovered) × (restart < event)
 
 -- no refusal exactly where neither applies
-abbrev pub TakenExactly : Type 0
-TakenExactly = (s event : ℕ) → stepOf s event .refusal ≡ 0 ↔ (s ≤ lost3Recovered) × (event ≤ restart)
+abbrev pub NotRefusedExactly : Type 0
+NotRefusedExactly = (s event : ℕ) → stepOf s event .refusal ≡ 0 ↔ (s ≤ lost3Recovered) × (event ≤ restart)
 
 -- a refused step gives the state back and reports nothing
 abbrev pub RefusedKeeps : Type 0
@@ -53,9 +51,10 @@ RestartQuiet = (s : ℕ) → stepOf s restart .report ≡ noReport
 
 abbrev pub lostRows : List (Row ℕ)
 lostRows =
-    (syncAcquired ⇒ 0) ∷ (lost1 ⇒ 1) ∷ (lost1Recovered ⇒ 1) ∷ (lost2 ⇒ 2) ∷ (lost2Recovered ⇒ 2) ∷ (lost3 ⇒ 3) ∷ (lost3Recovered ⇒ 3) ∷ []
+    (syncAcquired ⇒ 0) ∷ (lost1 ⇒ 1) ∷ (lost1Recovered ⇒ 1) ∷ (lost2 ⇒ 2) ∷ (lost2Recovered ⇒ 2) ∷ (lost3 ⇒ 3)
+    ∷ (lost3Recovered ⇒ 3) ∷ []
 
--- how many lost dwords a synchronized state holds against the stream
+-- how many lost dwords a synchronized state remembers
 abbrev pub lostCount : ℕ → ℕ
 lostCount s = rows s lostRows 0
 
@@ -79,17 +78,17 @@ AllValid (event ∷ events) = Valid event × AllValid events
 
 -- an invalid dword adds one, up to three, and reports nothing
 pub record OneMore (s : ℕ) : Type 0 where
-  pub held : Synchronized (stepOf s invalid .state)
-  pub counts : lostCount (stepOf s invalid .state) ≡ lostCount s + 1
-  pub quiet : stepOf s invalid .report ≡ noReport
+  pub held : Synchronized (stepOf s invalidDword .state)
+  pub counts : lostCount (stepOf s invalidDword .state) ≡ lostCount s + 1
+  pub quiet : stepOf s invalidDword .report ≡ noReport
 
 abbrev pub InvalidAdds : Type 0
 InvalidAdds = (s : ℕ) → Synchronized s → lostCount s < 3 → OneMore s
 
 -- the fourth loses synchronization
 pub record Loses (s : ℕ) : Type 0 where
-  pub anew : stepOf s invalid .state ≡ freshState
-  pub reports : stepOf s invalid .report ≡ lost
+  pub anew : stepOf s invalidDword .state ≡ freshState
+  pub reports : stepOf s invalidDword .report ≡ lost
 
 abbrev pub FourthLoses : Type 0
 FourthLoses = (s : ℕ) → Synchronized s → lostCount s ≡ 3 → Loses s
@@ -112,7 +111,8 @@ primitives (event ∷ events) = pick (eqb event primitive) 1 0 + primitives even
 -- how often a run over a list reports synchronization acquired
 abbrev pub acquisitions : ℕ → List ℕ → ℕ
 acquisitions s [] = 0
-acquisitions s (event ∷ events) = pick (eqb (stepOf s event .report) acquired) 1 0 + acquisitions (stepOf s event .state) events
+acquisitions s (event ∷ events) =
+    pick (eqb (stepOf s event .report) acquired) 1 0 + acquisitions (stepOf s event .state) events
 
 -- from fresh, with no invalid dword, three primitives acquire it, once, whatever data dwords stand between
 pub record Acquires (events : List ℕ) : Type 0 where
@@ -123,7 +123,7 @@ pub record Acquires (events : List ℕ) : Type 0 where
 abbrev pub ThreePrimitives : Type 0
 ThreePrimitives = (events : List ℕ) → AllValid events → Acquires events
 
--- whether synchronization is reported acquired with neither a loss reported nor a restart taken before
+-- whether acquisition is reported again before a loss is reported or a restart comes
 abbrev pub acquiredStill : ℕ → List ℕ → Bool
 acquiredStill s [] = false
 acquiredStill s (event ∷ events) =
@@ -133,4 +133,6 @@ acquiredStill s (event ∷ events) =
 
 -- between two reports of acquisition there is a loss or a restart, over any events, refused ones among them
 abbrev pub LostBetween : Type 0
-LostBetween = (s event : ℕ) (events : List ℕ) → stepOf s event .report ≡ acquired → acquiredStill (stepOf s event .state) events ≡ false
+LostBetween =
+    (s event : ℕ) (events : List ℕ) → stepOf s event .report ≡ acquired
+    → acquiredStill (stepOf s event .state) events ≡ false

@@ -35,8 +35,8 @@ lost3Recovered = 9
 
 -- ---- the events
 
-abbrev pub invalid : ℕ
-invalid = 0
+abbrev pub invalidDword : ℕ
+invalidDword = 0
 
 abbrev pub dataDword : ℕ
 dataDword = 1

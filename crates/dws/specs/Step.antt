@@ -5,7 +5,9 @@ use mathlib.Core.List.{List, [], _∷_}
 use lib.Dec.{eqb, leb}
 use Rattle.table.specs.Choice.{pick, Row, _⇒_, rows}
 use Rattle.table.specs.Refusals.{badState, badEvent}
-use Rattle.dws.specs.Names.{acquireSync, valid1, valid2, syncAcquired, lost1, lost1Recovered, lost2, lost2Recovered, lost3, lost3Recovered, invalid, dataDword, primitive, restart, noReport, acquired, lost}
+use Rattle.dws.specs.Names.{acquireSync, valid1, valid2, syncAcquired, lost1, lost1Recovered, lost2}
+use Rattle.dws.specs.Names.{lost2Recovered, lost3, lost3Recovered, invalidDword, dataDword, primitive, restart}
+use Rattle.dws.specs.Names.{noReport, acquired, lost}
 use Rattle.dws.specs.declared.Stepped.{Stepped}
 
 -- a fresh machine
@@ -17,7 +19,7 @@ unfoldable pub reportOf : (s event next : ℕ) → ℕ
 reportOf s event next =
     pick (eqb s valid2 && eqb next syncAcquired)
     acquired
-    (pick (leb lost3 s && eqb next acquireSync && eqb event invalid) lost noReport)
+    (pick (leb lost3 s && eqb next acquireSync && eqb event invalidDword) lost noReport)
 
 -- a primitive: before synchronization each is one step towards it
 abbrev pub primitiveRows : List (Row ℕ)
@@ -42,7 +44,7 @@ afterValid s = rows s validRows s
 unfoldable pub afterPrimitive : ℕ → ℕ
 afterPrimitive s = rows s primitiveRows (afterValid s)
 
--- an invalid dword: before synchronization it starts anew, after it one more is lost, and the fourth loses synchronization
+-- an invalid dword: before synchronization all starts anew; after it one more is lost, and the fourth loses it
 abbrev pub invalidRows : List (Row ℕ)
 invalidRows =
     (valid1 ⇒ acquireSync)
@@ -61,7 +63,9 @@ afterInvalid s = rows s invalidRows s
 
 -- the next state, by the event
 abbrev pub eventRows : ℕ → List (Row ℕ)
-eventRows s = (invalid ⇒ afterInvalid s) ∷ (dataDword ⇒ afterValid s) ∷ (primitive ⇒ afterPrimitive s) ∷ (restart ⇒ acquireSync) ∷ []
+eventRows s =
+    (invalidDword ⇒ afterInvalid s) ∷ (dataDword ⇒ afterValid s) ∷ (primitive ⇒ afterPrimitive s)
+    ∷ (restart ⇒ acquireSync) ∷ []
 
 unfoldable pub nextState : ℕ → ℕ → ℕ
 nextState s event = rows event (eventRows s) s
@@ -76,4 +80,5 @@ moved s event = record { state = nextState s event; report = reportOf s event (n
 
 -- any state and any event: the state is judged first, then the event
 unfoldable pub stepOf : ℕ → ℕ → Stepped
-stepOf s event = pick (leb s lost3Recovered) (pick (leb event restart) (moved s event) (refused s badEvent)) (refused s badState)
+stepOf s event =
+    pick (leb s lost3Recovered) (pick (leb event restart) (moved s event) (refused s badEvent)) (refused s badState)

@@ -24,9 +24,9 @@ const LOST_3: u64 = 8;
 
 const LOST_3_RECOVERED: u64 = 9;
 
-const INVALID: u64 = 0;
+const INVALID_DWORD: u64 = 0;
 
-const DATA: u64 = 1;
+const DATA_DWORD: u64 = 1;
 
 const PRIMITIVE: u64 = 2;
 
@@ -59,7 +59,7 @@ fn report_of(state: u64, event: u64, next: u64) -> u64
     if (state == VALID_2) & (next == SYNC_ACQUIRED) {
         return ACQUIRED;
     }
-    if (LOST_3 <= state) & (next == ACQUIRE_SYNC) & (event == INVALID) {
+    if (LOST_3 <= state) & (next == ACQUIRE_SYNC) & (event == INVALID_DWORD) {
         return LOST;
     }
     NO_REPORT
@@ -113,8 +113,8 @@ fn next_state(state: u64, event: u64) -> u64
     ensures { λ r. ⌜ r ≡ nextState state event ⌝ }
 {
     match event {
-        INVALID => after_invalid(state),
-        DATA => after_valid(state),
+        INVALID_DWORD => after_invalid(state),
+        DATA_DWORD => after_valid(state),
         PRIMITIVE => after_primitive(state),
         RESTART => ACQUIRE_SYNC,
         _ => state,

@@ -1,21 +1,14 @@
--- Each contract gives its result as one value of the definition, so two results are equal to it and to each other.
-use mathlib.Core.Path.{sym, _∙_}
-use Rattle.event.specs.Laws.{KnownDetermined, CodeKnownDetermined, CountDetermined, RangeDetermined, OpenKnownDetermined, OpenDetermined}
+-- Each contract gives its result as one value of a definition, so two results are equal to it and to each other.
+use Rattle.table.proofs.Results.{by-equation}
+use Rattle.event.specs.Laws.{Determined}
 
-pub known-determined : KnownDetermined
-known-determined e r q a b = a ∙ sym b
-
-pub code-known-determined : CodeKnownDetermined
-code-known-determined code r q a b = a ∙ sym b
-
-pub count-determined : CountDetermined
-count-determined code r q a b = a ∙ sym b
-
-pub range-determined : RangeDetermined
-range-determined code i r q a b = a ∙ sym b
-
-pub open-known-determined : OpenKnownDetermined
-open-known-determined o r q a b = a ∙ sym b
-
-pub open-determined : OpenDetermined
-open-determined e r q a b = a ∙ sym b
+pub determined : Determined
+determined =
+    record {
+      known = λ e. by-equation _;
+      code-known = λ code. by-equation _;
+      argument-count = λ code. by-equation _;
+      argument-range = λ code i. by-equation _;
+      open-known = λ o. by-equation _;
+      open-of = λ e. by-equation _;
+    }

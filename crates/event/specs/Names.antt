@@ -67,8 +67,8 @@ mostWait = 65535
 abbrev pub mostTag : ℕ
 mostTag = 65535
 
-abbrev pub mostBlocked : ℕ
-mostBlocked = 255
+abbrev pub mostBlockedCount : ℕ
+mostBlockedCount = 255
 
 abbrev pub slowRate : ℕ
 slowRate = 8

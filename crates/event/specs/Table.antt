@@ -2,10 +2,11 @@
 use Prim.Native.Nat.{ℕ}
 use mathlib.Core.Bool.{Bool, _&&_}
 use mathlib.Core.List.{List, [], _∷_}
-use lib.Dec.{leb}
+use lib.Dec.{eqb, leb}
 use lib.ListN.{length, getD}
 use Rattle.table.specs.Choice.{Row, _⇒_, rows}
-use Rattle.event.specs.Names.{STP, txOpen, openReceived, openRejectReceived, phyDisabled, slowRate, fastRate, mostTag, mostBlocked, mostWait, mostReject, mostAddress}
+use Rattle.event.specs.Names.{STP, txOpen, openReceived, openRejectReceived, phyDisabled, slowRate, fastRate}
+use Rattle.event.specs.Names.{mostTag, mostBlockedCount, mostWait, mostReject, mostAddress}
 use Rattle.event.specs.declared.Range.{Range}
 use Rattle.event.specs.declared.Event.{Event}
 use Rattle.event.specs.declared.Open.{Open}
@@ -17,7 +18,9 @@ a to b = record { least = a; most = b }
 
 -- Tx Open: destination, protocol, rate, tag, blocked count, wait
 abbrev pub txOpenArguments : List Range
-txOpenArguments = (0 to mostAddress) ∷ (0 to STP) ∷ (slowRate to fastRate) ∷ (0 to mostTag) ∷ (0 to mostBlocked) ∷ (0 to mostWait) ∷ []
+txOpenArguments =
+    (0 to mostAddress) ∷ (0 to STP) ∷ (slowRate to fastRate) ∷ (0 to mostTag) ∷ (0 to mostBlockedCount)
+    ∷ (0 to mostWait) ∷ []
 
 -- OPEN received: source, protocol
 abbrev pub openArguments : List Range
@@ -65,12 +68,40 @@ argumentsKnown code a b c d e f =
 
 -- an event is known: its code is, and its arguments are in their ranges
 unfoldable pub knownOf : Event → Bool
-knownOf e = codeKnown (e .code) && argumentsKnown (e .code) (e .first) (e .second) (e .third) (e .fourth) (e .fifth) (e .sixth)
+knownOf e =
+    codeKnown (e .code) && argumentsKnown (e .code) (e .first) (e .second) (e .third) (e .fourth) (e .fifth) (e .sixth)
+
+-- the event of a code and of the arguments that it has; those that it lacks are zero
+abbrev pub eventOf : ℕ → List ℕ → Event
+eventOf code vs =
+    record {
+      code = code;
+      first = getD vs 0 0;
+      second = getD vs 1 0;
+      third = getD vs 2 0;
+      fourth = getD vs 3 0;
+      fifth = getD vs 4 0;
+      sixth = getD vs 5 0;
+    }
 
 -- the Open that the arguments of a Tx Open make
 abbrev pub openOf : Event → Open
-openOf e = record { destination = e .first; protocol = e .second; rate = e .third; tag = e .fourth; blocked = e .fifth; wait = e .sixth }
+openOf e =
+    record {
+      destination = e .first;
+      protocol = e .second;
+      rate = e .third;
+      tag = e .fourth;
+      blockedCount = e .fifth;
+      wait = e .sixth;
+    }
 
 -- an Open that is kept has its arguments in the ranges of a Tx Open
 unfoldable pub openKnown : Open → Bool
-openKnown o = argumentsKnown txOpen (o .destination) (o .protocol) (o .rate) (o .tag) (o .blocked) (o .wait)
+openKnown o = argumentsKnown txOpen (o .destination) (o .protocol) (o .rate) (o .tag) (o .blockedCount) (o .wait)
+
+-- two Opens have the same arguments
+abbrev pub sameOpen : Open → Open → Bool
+sameOpen a b =
+    eqb (a .destination) (b .destination) && eqb (a .protocol) (b .protocol) && eqb (a .rate) (b .rate)
+    && eqb (a .tag) (b .tag) && eqb (a .blockedCount) (b .blockedCount) && eqb (a .wait) (b .wait)

@@ -45,7 +45,7 @@ pub const MOST_WAIT: u64 = 65535;
 
 pub const MOST_TAG: u64 = 65535;
 
-pub const MOST_BLOCKED: u64 = 255;
+pub const MOST_BLOCKED_COUNT: u64 = 255;
 
 pub const SLOW_RATE: u64 = 8;
 
@@ -62,7 +62,7 @@ pub struct Open {
     pub protocol: u64,
     pub rate: u64,
     pub tag: u64,
-    pub blocked: u64,
+    pub blockedCount: u64,
     pub wait: u64,
 }
 
@@ -120,7 +120,7 @@ fn tx_open_range(i: u64) -> Range
         },
         4 => Range {
             least: 0,
-            most: MOST_BLOCKED,
+            most: MOST_BLOCKED_COUNT,
         },
         5 => Range {
             least: 0,
@@ -197,7 +197,7 @@ fn arguments_known(code: u64, a: u64, b: u64, c: u64, d: u64, e: u64, f: u64) ->
             (b <= STP)
                 & ((SLOW_RATE <= c) & (c <= FAST_RATE))
                 & (d <= MOST_TAG)
-                & (e <= MOST_BLOCKED)
+                & (e <= MOST_BLOCKED_COUNT)
                 & (f <= MOST_WAIT)
         }
         OPEN_RECEIVED => (b <= STP) & (c <= NONE) & (d <= NONE) & (e <= NONE) & (f <= NONE),
@@ -225,7 +225,7 @@ pub fn open_known(o: Open) -> bool
         o.protocol,
         o.rate,
         o.tag,
-        o.blocked,
+        o.blockedCount,
         o.wait,
     )
 }
@@ -239,7 +239,7 @@ pub fn open_of(e: Event) -> Open
         protocol: e.second,
         rate: e.third,
         tag: e.fourth,
-        blocked: e.fifth,
+        blockedCount: e.fifth,
         wait: e.sixth,
     }
 }

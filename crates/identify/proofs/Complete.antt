@@ -7,7 +7,7 @@ use native.Mathlib.Omega.{arith}
 use borrow.Author.Tests.{leb-true, eqb-false}
 use Rattle.table.specs.Flags.{on}
 use Rattle.table.proofs.Laws.{apart}
-use Rattle.identify.specs.Names.{none, failed, complete, timedOut, resetReceived}
+use Rattle.identify.specs.Names.{none, failed, complete, timeOut, resetReceived}
 use Rattle.identify.specs.State.{both}
 use Rattle.identify.specs.Laws.{CompleteExactly, CompleteReported}
 use Rattle.identify.specs.declared.Identification.{Identification}
@@ -21,7 +21,7 @@ exactly : {i : Identification} → Shape i → i .outcome ≡ complete ↔ (i .g
 exactly (going (awaits p k)) = neither (eqb-false none complete refl) (λ h. apart (h .0))
 exactly (going holds) = neither (eqb-false none complete refl) (λ h. apart (h .1))
 exactly (ended joined) = together refl (refl, refl)
-exactly (ended (late p)) = neither (eqb-false timedOut complete refl) (λ h. apart (h .0))
+exactly (ended (late p)) = neither (eqb-false timeOut complete refl) (λ h. apart (h .0))
 exactly (ended (was-reset p e k)) = neither (eqb-false resetReceived complete refl) (λ h. apart (h .0))
 
 pub complete-exactly : CompleteExactly
@@ -40,7 +40,7 @@ reported (bad-event v k) = neither (eqb-false none complete refl) (λ h. clash (
 reported (lands v k g (stays {report = n} j r)) =
     neither (λ e. omega (arith, leb-true n failed r)) (λ h. clash (h .1) (not-both j))
 reported (lands v k g (finishes joined)) = together refl (not-both g, refl)
-reported (lands v k g (finishes (late p))) = neither (eqb-false timedOut complete refl) (λ h. false≢true (h .1))
+reported (lands v k g (finishes (late p))) = neither (eqb-false timeOut complete refl) (λ h. false≢true (h .1))
 reported (lands v k g (finishes (was-reset p e l))) = neither (eqb-false resetReceived complete refl) (λ h. false≢true (h .1))
 reported (stands v k d f) = neither (eqb-false none complete refl) (λ h. clash (h .1) (h .0))
 reported (anew v k d t) = neither (eqb-false none complete refl) (λ h. false≢true (h .1))

@@ -1,12 +1,11 @@
--- Each contract gives its result as one value of the definition, so two results are equal to it and to each other.
-use mathlib.Core.Path.{sym, _∙_}
-use Rattle.identify.specs.Laws.{FreshDetermined, ValidDetermined, StepDetermined}
+-- Each contract gives its result as one value of a definition, so two results are equal to it and to each other.
+use Rattle.table.proofs.Results.{by-equation}
+use Rattle.identify.specs.Laws.{Determined}
 
-pub fresh-determined : FreshDetermined
-fresh-determined r q a b = a ∙ sym b
-
-pub valid-determined : ValidDetermined
-valid-determined i r q a b = a ∙ sym b
-
-pub step-determined : StepDetermined
-step-determined i event argument r q a b = a ∙ sym b
+pub determined : Determined
+determined =
+    record {
+      fresh = by-equation _;
+      valid = λ i. by-equation _;
+      step = λ i event argument. by-equation _;
+    }

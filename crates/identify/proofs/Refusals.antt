@@ -7,7 +7,7 @@ use borrow.Author.Tests.{eqb-false}
 use Rattle.table.specs.Refusals.{badState, badEvent}
 use Rattle.identify.specs.State.{validOf}
 use Rattle.identify.specs.Step.{knownOf}
-use Rattle.identify.specs.Laws.{BadStateExactly, BadEventExactly, TakenExactly, Untouched, RefusedKeeps}
+use Rattle.identify.specs.Laws.{BadStateExactly, BadEventExactly, NotRefusedExactly, Untouched, RefusedKeeps}
 use Rattle.identify.specs.declared.Identification.{Identification}
 use Rattle.identify.specs.declared.Stepped.{Stepped}
 use Rattle.identify.proofs.Basics.{clash, neither, together}
@@ -49,8 +49,8 @@ bad-state-exactly i event argument = one (judged (stepping i event argument))
 pub bad-event-exactly : BadEventExactly
 bad-event-exactly i event argument = two (judged (stepping i event argument))
 
-pub taken-exactly : TakenExactly
-taken-exactly i event argument = nought (judged (stepping i event argument))
+pub not-refused-exactly : NotRefusedExactly
+not-refused-exactly i event argument = nought (judged (stepping i event argument))
 
 keeps : {i : Identification} {event argument : ℕ} {s : Stepped} → Stepping i event argument s → (s .refusal ≡ 0 → ⊥) → Untouched i s
 keeps (bad-state v) h = record { same = refl; silent = refl }

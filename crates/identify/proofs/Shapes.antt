@@ -1,15 +1,16 @@
 -- A valid state has one of a few shapes, and each of these is valid: every law over valid states goes by them.
 use Prim.Native.Nat.{ℕ, zero, suc, _≤_, _<_}
 use mathlib.Core.Bool.{Bool, true, false, _&&_, _||_, and-false, or-false, false≢true}
+use mathlib.Core.List.{[], _∷_}
 use mathlib.Core.Path.{_≡_, refl, sym, _∙_, subst}
 use native.Mathlib.Omega.{arith}
 use borrow.Author.Tests.{le-leb, leb-true, eqb-true, ne-eqb}
 use lib.Dec.{eqb, leb}
-use Rattle.table.proofs.Laws.{parts, is-flag, flag-says}
-use Rattle.identify.specs.Names.{idle, receiving, spoiled, completed, none, complete, timedOut, resetReceived, frameDwords, mostTicks}
+use Rattle.table.proofs.Laws.{parts, all-hold, is-flag, flag-says}
+use Rattle.identify.specs.Names.{idle, receiving, spoiled, completed, none, complete, timeOut, resetReceived, frameDwords, fullTimer}
 use Rattle.table.specs.Choice.{split}
 use Rattle.table.specs.Flags.{isFlag, isOn, flagOf}
-use Rattle.identify.specs.State.{only, flagsRight, receiverRight, countRight, typedRight, gotRight, timerRight, outcomeRight, completeRight, timedOutRight, resetRight, validOf}
+use Rattle.identify.specs.State.{only, flagsRight, receiverRight, countRight, typedRight, gotRight, timerRight, outcomeRight, completeRight, timeOutRight, resetRight, validOf}
 use Rattle.identify.specs.declared.Identification.{Identification}
 
 -- ---- the shapes
@@ -37,7 +38,7 @@ pub data Place : ℕ → ℕ → Bool → Type 0 where
 -- the timer, before an identify is got
 pub data Clock : ℕ → Bool → Type 0 where
   unsent : Clock 0 false
-  runs : {t : ℕ} → 1 ≤ t → t ≤ mostTicks → Clock t true
+  runs : {t : ℕ} → 1 ≤ t → t ≤ fullTimer → Clock t true
 
 -- no outcome yet
 pub data Going : Identification → Type 0 where
@@ -47,7 +48,7 @@ pub data Going : Identification → Type 0 where
 -- an outcome
 pub data Ended : Identification → Type 0 where
   joined : Ended (state completed 0 0 complete false true true)
-  late : {r n : ℕ} {typed : Bool} → Place r n typed → Ended (state r n 0 timedOut typed false true)
+  late : {r n : ℕ} {typed : Bool} → Place r n typed → Ended (state r n 0 timeOut typed false true)
   was-reset : {r n t : ℕ} {typed sent : Bool} → Place r n typed → eqb r idle || eqb r completed ≡ true → Clock t sent → Ended (state r n 0 resetReceived typed false sent)
 
 -- either
@@ -97,33 +98,14 @@ record Rules (i : Identification) : Type 0 where
   pub typed : typedRight i ≡ true
   pub outcome : outcomeRight i ≡ true
   pub complete : completeRight i ≡ true
-  pub timedOut : timedOutRight i ≡ true
+  pub timeOut : timeOutRight i ≡ true
   pub reset : resetRight i ≡ true
 
 rules : (i : Identification) → validOf i ≡ true → Rules i
 unfolding validOf
 rules i v =
-    let v9 = parts _ (resetRight i) v in
-    let v8 = parts _ (timedOutRight i) (v9 .0) in
-    let v7 = parts _ (completeRight i) (v8 .0) in
-    let v6 = parts _ (outcomeRight i) (v7 .0) in
-    let v5 = parts _ (typedRight i) (v6 .0) in
-    let v4 = parts _ (gotRight i) (v5 .0) in
-    let v3 = parts _ (timerRight i) (v4 .0) in
-    let v2 = parts _ (countRight i) (v3 .0) in
-    let v1 = parts (flagsRight i) (receiverRight i) (v2 .0) in
-    record {
-      flags = v1 .0;
-      receiver = v1 .1;
-      count = v2 .1;
-      timer = v3 .1;
-      got = v4 .1;
-      typed = v5 .1;
-      outcome = v6 .1;
-      complete = v7 .1;
-      timedOut = v8 .1;
-      reset = v9 .1;
-    }
+    let v = all-hold (flagsRight i) (receiverRight i ∷ countRight i ∷ timerRight i ∷ gotRight i ∷ typedRight i ∷ outcomeRight i ∷ completeRight i ∷ timeOutRight i ∷ resetRight i ∷ []) v in
+    record { flags = v 0; receiver = v 1; count = v 2; timer = v 3; got = v 4; typed = v 5; outcome = v 6; complete = v 7; timeOut = v 8; reset = v 9 }
 
 -- what holds at 0 holds of a number that the test says is 0
 at-zero : (P : ℕ → Type 0) → P 0 → (n : ℕ) → eqb n 0 ≡ true → P n
@@ -150,10 +132,10 @@ at-end P p at-spoiled e = absurd (false≢true e)
 at-end P p at-completed e = p
 
 -- the timer's rule gives the clock, while nothing is got and there is no outcome
-clock : (t : ℕ) (sent : Bool) → split (isOn (flagOf sent) && true && true) (leb 1 t && leb t mostTicks) (eqb t 0) ≡ true → Clock t sent
+clock : (t : ℕ) (sent : Bool) → split (isOn (flagOf sent) && true && true) (leb 1 t && leb t fullTimer) (eqb t 0) ≡ true → Clock t sent
 clock t true e =
-    let h = parts (leb 1 t) (leb t mostTicks) (sym (or-false (leb 1 t && leb t mostTicks)) ∙ e) in
-    runs (leb-true 1 t (h .0)) (leb-true t mostTicks (h .1))
+    let h = parts (leb 1 t) (leb t fullTimer) (sym (or-false (leb 1 t && leb t fullTimer)) ∙ e) in
+    runs (leb-true 1 t (h .0)) (leb-true t fullTimer (h .1))
 clock t false e = at-zero (λ u. Clock u false) unsent t e
 
 -- ---- by the outcome
@@ -174,11 +156,11 @@ when-complete r n t typed true true v =
     (at-zero (λ u. Ended (state completed 0 u complete false true true)) joined t (v .timer))
     (place r n t complete typed true true v) (v .got)
 
-when-late : (r n t : ℕ) (typed got sent : Bool) → Rules (state r n t timedOut typed got sent) → Ended (state r n t timedOut typed got sent)
-when-late r n t typed got false v = absurd (false≢true (v .timedOut))
-when-late r n t typed true true v = absurd (false≢true (v .timedOut))
+when-late : (r n t : ℕ) (typed got sent : Bool) → Rules (state r n t timeOut typed got sent) → Ended (state r n t timeOut typed got sent)
+when-late r n t typed got false v = absurd (false≢true (v .timeOut))
+when-late r n t typed true true v = absurd (false≢true (v .timeOut))
 when-late r n t typed false true v =
-    at-zero (λ u. Ended (state r n u timedOut typed false true)) (late (place r n t timedOut typed false true v)) t (v .timer)
+    at-zero (λ u. Ended (state r n u timeOut typed false true)) (late (place r n t timeOut typed false true v)) t (v .timer)
 
 when-reset : (r n t : ℕ) (typed got sent : Bool) → Rules (state r n t resetReceived typed got sent) → Ended (state r n t resetReceived typed got sent)
 when-reset r n t typed true sent v = absurd (false≢true (v .reset))
@@ -189,10 +171,10 @@ when-reset r n t typed false false v =
     at-zero (λ u. Ended (state r n u resetReceived typed false false)) (was-reset (place r n t resetReceived typed false false v) (v .reset) unsent) t (v .timer)
 
 -- there are no further outcomes
-beyond : (o : ℕ) → resetReceived < o → eqb o none || eqb o complete || eqb o timedOut || eqb o resetReceived ≡ true → ⊥
+beyond : (o : ℕ) → resetReceived < o → eqb o none || eqb o complete || eqb o timeOut || eqb o resetReceived ≡ true → ⊥
 beyond o h e =
     false≢true
-    (rw (ne-eqb o none (λ k. omega arith), ne-eqb o complete (λ k. omega arith), ne-eqb o timedOut (λ k. omega arith), ne-eqb o resetReceived (λ k. omega arith)) at e)
+    (rw (ne-eqb o none (λ k. omega arith), ne-eqb o complete (λ k. omega arith), ne-eqb o timeOut (λ k. omega arith), ne-eqb o resetReceived (λ k. omega arith)) at e)
 
 shaped : (r n t o : ℕ) (typed got sent : Bool) → Rules (state r n t o typed got sent) → Shape (state r n t o typed got sent)
 shaped r n t zero typed got sent v = going (no-outcome r n t typed got sent v)
@@ -205,9 +187,8 @@ shaped r n t (suc (suc (suc (suc (suc o))))) typed got sent v = absurd (beyond (
 -- a state whose flags are right is one by what they say
 by-flags : (i : Identification) → flagsRight i ≡ true → state (i .receiver) (i .count) (i .timer) (i .outcome) (isOn (i .typed)) (isOn (i .got)) (isOn (i .sent)) ≡ i
 by-flags i e =
-    let f = parts _ (isFlag (i .sent)) e in
-    let g = parts (isFlag (i .typed)) (isFlag (i .got)) (f .0) in
-    rw (flag-says (i .typed) (g .0), flag-says (i .got) (g .1), flag-says (i .sent) (f .1))
+    let f = all-hold (isFlag (i .typed)) (isFlag (i .got) ∷ isFlag (i .sent) ∷ []) e in
+    rw (flag-says (i .typed) (f 0), flag-says (i .got) (f 1), flag-says (i .sent) (f 2))
 
 pub shape : (i : Identification) → validOf i ≡ true → Shape i
 shape i v =

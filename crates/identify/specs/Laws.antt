@@ -1,14 +1,16 @@
--- What is promised of identification beyond the contracts. Each statement is proved in the file of proofs/ named above it.
+-- What is promised of identification beyond the contracts. A heading names the file of proofs/.
 use Prim.Native.Nat.{ℕ, suc, _-_, _≤_, _<_}
-use mathlib.Core.Bool.{Bool, true, false}
+use mathlib.Core.Bool.{true, false}
 use mathlib.Core.List.{List}
 use mathlib.Core.Logic.{_↔_}
 use mathlib.Core.Path.{_≡_}
 use Rattle.table.specs.Flags.{off, on}
 use Rattle.table.specs.Refusals.{badState, badEvent}
-use Rattle.identify.specs.Names.{receiving, spoiled, soaf, hardReset, tick, enable, none, failed, complete, timedOut, mostTicks}
+use Rattle.table.specs.Results.{Determines}
+use Rattle.identify.specs.Names.{receiving, spoiled, soaf, hardReset, tick, enable, none, failed, complete}
+use Rattle.identify.specs.Names.{timeOut, fullTimer}
 use Rattle.identify.specs.State.{both, validOf}
-use Rattle.identify.specs.Step.{fresh, timed, quiet, knownOf, stepOf}
+use Rattle.identify.specs.Step.{fresh, withTimer, quiet, knownOf, stepOf}
 use Rattle.identify.specs.Run.{Event, results, outcomesIn, NoEnable, afterSent, afterTicks}
 use Rattle.identify.specs.Contracts.{StartsFresh, TellsValid, Steps}
 use Rattle.identify.specs.declared.Identification.{Identification}
@@ -16,23 +18,18 @@ use Rattle.identify.specs.declared.Stepped.{Stepped}
 
 -- ---- results are determined (proofs/Determined)
 
--- two results that `fresh` may give coincide
-abbrev pub FreshDetermined : Type 0
-FreshDetermined = (r q : Identification) → StartsFresh r → StartsFresh q → r ≡ q
-
--- two results that `valid` may give coincide
-abbrev pub ValidDetermined : Type 0
-ValidDetermined = (i : Identification) (r q : Bool) → TellsValid i r → TellsValid i q → r ≡ q
-
--- two results that `step` may give coincide
-abbrev pub StepDetermined : Type 0
-StepDetermined = (i : Identification) (event argument : ℕ) (r q : Stepped) → Steps i event argument r → Steps i event argument q → r ≡ q
+-- two results that a function may give coincide
+pub record Determined : Type 0 where
+  pub fresh : Determines StartsFresh
+  pub valid : (i : Identification) → Determines (TellsValid i)
+  pub step : (i : Identification) (event argument : ℕ) → Determines (Steps i event argument)
 
 -- ---- each refusal exactly when (proofs/Refusals)
 
 -- 1: the state is not valid
 abbrev pub BadStateExactly : Type 0
-BadStateExactly = (i : Identification) (event argument : ℕ) → stepOf i event argument .refusal ≡ badState ↔ (validOf i ≡ false)
+BadStateExactly =
+    (i : Identification) (event argument : ℕ) → stepOf i event argument .refusal ≡ badState ↔ (validOf i ≡ false)
 
 -- 2: the state is valid, and the event is not known
 abbrev pub BadEventExactly : Type 0
@@ -41,8 +38,8 @@ BadEventExactly =
     → stepOf i event argument .refusal ≡ badEvent ↔ (validOf i ≡ true) × (knownOf event argument ≡ false)
 
 -- 0: neither
-abbrev pub TakenExactly : Type 0
-TakenExactly =
+abbrev pub NotRefusedExactly : Type 0
+NotRefusedExactly =
     (i : Identification) (event argument : ℕ)
     → stepOf i event argument .refusal ≡ 0 ↔ (validOf i ≡ true) × (knownOf event argument ≡ true)
 
@@ -53,7 +50,9 @@ pub record Untouched (i : Identification) (s : Stepped) : Type 0 where
 
 -- every refused step is one
 abbrev pub RefusedKeeps : Type 0
-RefusedKeeps = (i : Identification) (event argument : ℕ) → (stepOf i event argument .refusal ≡ 0 → ⊥) → Untouched i (stepOf i event argument)
+RefusedKeeps =
+    (i : Identification) (event argument : ℕ) → (stepOf i event argument .refusal ≡ 0 → ⊥)
+    → Untouched i (stepOf i event argument)
 
 -- ---- validity (proofs/OneStep)
 
@@ -63,7 +62,8 @@ FreshValid = validOf fresh ≡ true
 
 -- a valid state stays valid, whatever comes
 abbrev pub StaysValid : Type 0
-StaysValid = (i : Identification) (event argument : ℕ) → validOf i ≡ true → validOf (stepOf i event argument .next) ≡ true
+StaysValid =
+    (i : Identification) (event argument : ℕ) → validOf i ≡ true → validOf (stepOf i event argument .next) ≡ true
 
 -- ---- frames (proofs/Frames)
 
@@ -90,11 +90,12 @@ pub record BeganAnew (s : Stepped) : Type 0 where
 
 -- a second SOAF in a frame starts the count anew
 abbrev pub SecondSoafBeginsAnew : Type 0
-SecondSoafBeginsAnew = (i : Identification) → validOf i ≡ true → i .receiver ≡ receiving → i .outcome ≡ none → BeganAnew (stepOf i soaf 0)
+SecondSoafBeginsAnew =
+    (i : Identification) → validOf i ≡ true → i .receiver ≡ receiving → i .outcome ≡ none → BeganAnew (stepOf i soaf 0)
 
 -- ---- Complete (proofs/Complete)
 
--- the outcome is Complete exactly when the identify is got and the own frame sent
+-- the outcome is Complete exactly when the identify is got and our own frame sent
 abbrev pub CompleteExactly : Type 0
 CompleteExactly = (i : Identification) → validOf i ≡ true → i .outcome ≡ complete ↔ (i .got ≡ on) × (i .sent ≡ on)
 
@@ -116,7 +117,7 @@ pub record Awaited (i : Identification) : Type 0 where
 abbrev pub TimerRunsExactly : Type 0
 TimerRunsExactly = (i : Identification) → validOf i ≡ true → (i .timer ≡ 0 → ⊥) ↔ Awaited i
 
--- where sending the own frame starts the timer
+-- where sending our own frame starts the timer
 pub record StartsTimer (i : Identification) : Type 0 where
   pub right : validOf i ≡ true
   pub notSent : i .sent ≡ off
@@ -126,23 +127,26 @@ pub record StartsTimer (i : Identification) : Type 0 where
 -- after n ticks, fewer than a thousand, nothing but the timer has changed
 abbrev pub TimerFalls : Type 0
 TimerFalls =
-    (i : Identification) → StartsTimer i → (n : ℕ) → n < mostTicks → afterTicks n (afterSent i) ≡ timed (afterSent i) (mostTicks - n)
+    (i : Identification) → StartsTimer i → (n : ℕ) → n < fullTimer
+    → afterTicks n (afterSent i) ≡ withTimer (afterSent i) (fullTimer - n)
 
 -- each of them before the thousandth reports nothing
 abbrev pub TicksSilent : Type 0
 TicksSilent =
-    (i : Identification) → StartsTimer i → (n : ℕ) → suc n < mostTicks → stepOf (afterTicks n (afterSent i)) tick 0 .report ≡ none
+    (i : Identification) → StartsTimer i → (n : ℕ) → suc n < fullTimer
+    → stepOf (afterTicks n (afterSent i)) tick 0 .report ≡ none
 
 -- the time is over
 pub record RanOut (s : Stepped) : Type 0 where
-  pub told : s .report ≡ timedOut
-  pub kept : s .next .outcome ≡ timedOut
+  pub told : s .report ≡ timeOut
+  pub kept : s .next .outcome ≡ timeOut
   pub stopped : s .next .timer ≡ 0
 
 -- the thousandth tick gives Identify Time-Out
 abbrev pub ThousandthTick : Type 0
 ThousandthTick =
-    (i : Identification) → StartsTimer i → (n : ℕ) → suc n ≡ mostTicks → RanOut (stepOf (afterTicks n (afterSent i)) tick 0)
+    (i : Identification) → StartsTimer i → (n : ℕ) → suc n ≡ fullTimer
+    → RanOut (stepOf (afterTicks n (afterSent i)) tick 0)
 
 -- ---- one outcome (proofs/Outcomes)
 
@@ -154,4 +158,6 @@ OnlyEnable =
 
 -- over any events without an Enable at most one outcome is reported
 abbrev pub AtMostOneOutcome : Type 0
-AtMostOneOutcome = (i : Identification) → validOf i ≡ true → (events : List Event) → NoEnable events → outcomesIn (results i events) ≤ 1
+AtMostOneOutcome =
+    (i : Identification) → validOf i ≡ true → (events : List Event) → NoEnable events
+    → outcomesIn (results i events) ≤ 1

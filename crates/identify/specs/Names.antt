@@ -68,8 +68,8 @@ abbrev pub complete : ℕ
 complete = 2
 
 -- no identify frame was got in time
-abbrev pub timedOut : ℕ
-timedOut = 3
+abbrev pub timeOut : ℕ
+timeOut = 3
 
 -- a HARD_RESET came before an identify frame was got
 abbrev pub resetReceived : ℕ
@@ -102,5 +102,5 @@ abbrev pub mostDword : ℕ
 mostDword = 4294967295
 
 -- ticks that a frame is waited for
-abbrev pub mostTicks : ℕ
-mostTicks = 1000
+abbrev pub fullTimer : ℕ
+fullTimer = 1000

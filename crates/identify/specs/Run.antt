@@ -29,7 +29,7 @@ abbrev pub outcomesIn : List Stepped → ℕ
 outcomesIn [] = 0
 outcomesIn (s ∷ ss) = pick (leb complete (s .report)) 1 0 + outcomesIn ss
 
--- an Enable, and not a number that only looks like one
+-- a known Enable; with an argument it is refused
 abbrev pub isEnable : Event → Bool
 isEnable e = eqb (e .code) enable && knownOf (e .code) (e .argument)
 
@@ -38,7 +38,7 @@ abbrev pub NoEnable : List Event → Type 0
 NoEnable [] = Unit
 NoEnable (e ∷ es) = (isEnable e ≡ false) × NoEnable es
 
--- the state when the own frame has been sent
+-- the state when our own frame has been sent
 abbrev pub afterSent : Identification → Identification
 afterSent i = stepOf i ownFrameSent 0 .next
 

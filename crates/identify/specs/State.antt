@@ -3,7 +3,8 @@ use mathlib.Core.Bool.{Bool, _&&_, _||_, not}
 use lib.Dec.{eqb, leb}
 use Rattle.table.specs.Choice.{split}
 use Rattle.table.specs.Flags.{isFlag, isOn}
-use Rattle.identify.specs.Names.{idle, receiving, completed, none, complete, timedOut, resetReceived, frameDwords, mostTicks}
+use Rattle.identify.specs.Names.{idle, receiving, completed, none, complete, timeOut, resetReceived}
+use Rattle.identify.specs.Names.{frameDwords, fullTimer}
 use Rattle.identify.specs.declared.Identification.{Identification}
 
 -- one thing holds only where another does
@@ -14,7 +15,7 @@ only holds needed = not holds || needed
 abbrev pub inFrame : Identification → Bool
 inFrame i = eqb (i .receiver) receiving
 
--- the identify got and the own frame sent
+-- the identify got and our own frame sent
 abbrev pub both : Identification → Bool
 both i = isOn (i .got) && isOn (i .sent)
 
@@ -36,7 +37,7 @@ countRight i = split (inFrame i) (leb (i .count) frameDwords) (eqb (i .count) 0)
 
 -- the timer is 1 to 1,000 exactly while a frame is awaited, else 0
 abbrev pub timerRight : Identification → Bool
-timerRight i = split (awaiting i) (leb 1 (i .timer) && leb (i .timer) mostTicks) (eqb (i .timer) 0)
+timerRight i = split (awaiting i) (leb 1 (i .timer) && leb (i .timer) fullTimer) (eqb (i .timer) 0)
 
 -- an identify is got only where a frame has ended
 abbrev pub gotRight : Identification → Bool
@@ -48,21 +49,25 @@ typedRight i = only (isOn (i .typed)) (inFrame i && leb 1 (i .count))
 
 -- the outcome is none or one of the three
 abbrev pub outcomeRight : Identification → Bool
-outcomeRight i = eqb (i .outcome) none || eqb (i .outcome) complete || eqb (i .outcome) timedOut || eqb (i .outcome) resetReceived
+outcomeRight i =
+    eqb (i .outcome) none || eqb (i .outcome) complete || eqb (i .outcome) timeOut || eqb (i .outcome) resetReceived
 
 -- Complete is the outcome exactly when both are there
 abbrev pub completeRight : Identification → Bool
 completeRight i = split (eqb (i .outcome) complete) (both i) (not (both i))
 
--- Identify Time-Out needs the own frame sent and none got
-abbrev pub timedOutRight : Identification → Bool
-timedOutRight i = only (eqb (i .outcome) timedOut) (isOn (i .sent) && not (isOn (i .got)))
+-- Identify Time-Out needs our own frame sent and none got
+abbrev pub timeOutRight : Identification → Bool
+timeOutRight i = only (eqb (i .outcome) timeOut) (isOn (i .sent) && not (isOn (i .got)))
 
 -- Reset Received needs none got, and no frame under way
 abbrev pub resetRight : Identification → Bool
-resetRight i = only (eqb (i .outcome) resetReceived) (not (isOn (i .got)) && (eqb (i .receiver) idle || eqb (i .receiver) completed))
+resetRight i =
+    only (eqb (i .outcome) resetReceived)
+    (not (isOn (i .got)) && (eqb (i .receiver) idle || eqb (i .receiver) completed))
 
 -- every rule holds
 unfoldable pub validOf : Identification → Bool
 validOf i =
-    flagsRight i && receiverRight i && countRight i && timerRight i && gotRight i && typedRight i && outcomeRight i && completeRight i && timedOutRight i && resetRight i
+    flagsRight i && receiverRight i && countRight i && timerRight i && gotRight i && typedRight i && outcomeRight i
+    && completeRight i && timeOutRight i && resetRight i

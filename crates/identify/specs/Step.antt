@@ -6,7 +6,10 @@ use lib.Dec.{eqb, leb}
 use Rattle.table.specs.Choice.{pick, Row, _⇒_, rows}
 use Rattle.table.specs.Flags.{off, on, isOn, flagOf}
 use Rattle.table.specs.Refusals.{badState, badEvent}
-use Rattle.identify.specs.Names.{idle, receiving, spoiled, completed, soaf, dataDword, eoaf, hardReset, otherPrimitive, ownFrameSent, tick, enable, none, failed, complete, timedOut, resetReceived, frameDwords, identifyType, typePlace, typeValues, crcGood, mostDword, mostTicks}
+use Rattle.identify.specs.Names.{idle, receiving, spoiled, completed, soaf, dataDword, eoaf, hardReset}
+use Rattle.identify.specs.Names.{otherPrimitive, ownFrameSent, tick, enable, none, failed, complete, timeOut}
+use Rattle.identify.specs.Names.{resetReceived, frameDwords, identifyType, typePlace, typeValues, crcGood}
+use Rattle.identify.specs.Names.{mostDword, fullTimer}
 use Rattle.identify.specs.State.{both, validOf}
 use Rattle.identify.specs.declared.Identification.{Identification}
 use Rattle.identify.specs.declared.Stepped.{Stepped}
@@ -30,7 +33,7 @@ goes i receiver n typed =
       sent = i .sent;
     }
 
--- the exchange stands so: the timer, the outcome, got and sent
+-- the state with this timer and outcome, and with got and sent so
 abbrev pub stands : Identification → (timer outcome got sent : ℕ) → Identification
 stands i timer outcome got sent =
     record {
@@ -44,8 +47,8 @@ stands i timer outcome got sent =
     }
 
 -- the timer at t
-abbrev pub timed : Identification → ℕ → Identification
-timed i t = stands i t (i .outcome) (i .got) (i .sent)
+abbrev pub withTimer : Identification → ℕ → Identification
+withTimer i t = stands i t (i .outcome) (i .got) (i .sent)
 
 -- ---- reports
 
@@ -126,17 +129,17 @@ ignoresReset i = eqb (i .receiver) receiving || eqb (i .receiver) spoiled || isO
 unfoldable pub onHardReset : Identification → Stepped
 onHardReset i = pick (ignoresReset i) (quiet i) (ends i resetReceived)
 
--- the own frame is sent, which starts the timer unless the identify is got already
+-- our own frame is sent, which starts the timer unless the identify is got already
 abbrev pub sends : Identification → Identification
-sends i = stands i (pick (isOn (i .got)) 0 mostTicks) (i .outcome) (i .got) on
+sends i = stands i (pick (isOn (i .got)) 0 fullTimer) (i .outcome) (i .got) on
 
--- 5, the own frame is sent: later ones are ignored
+-- 5, our own frame is sent: later ones are ignored
 unfoldable pub onOwnFrameSent : Identification → Stepped
 onOwnFrameSent i = pick (isOn (i .sent)) (quiet i) (exchanged (sends i))
 
 -- the timer has fallen to t
 abbrev pub falls : Identification → ℕ → Stepped
-falls i t = pick (eqb t 0) (ends i timedOut) (quiet (timed i t))
+falls i t = pick (eqb t 0) (ends i timeOut) (quiet (withTimer i t))
 
 -- 6, a tick: a running timer falls by one
 unfoldable pub onTick : Identification → Stepped

@@ -1,5 +1,5 @@
 // Identification: a phy waits for the other side's identify frame and sends its own. The receiver
-// takes the frame apart, a timer runs from the own frame on, and there is one outcome.
+// takes the frame apart, a timer runs from our own frame on, and there is one outcome.
 ghost use mathlib.Core.Path.{_≡_};
 ghost use Rattle.identify.specs.Contracts.{StartsFresh, TellsValid, Steps};
 ghost use Rattle.identify.specs.Step.{goes, reports, quiet, ends, exchanged, refused, onSoaf, typeAfter, counted, onDataDword, frameEnds, onEoaf, onHardReset, onOwnFrameSent, onTick, mostOf, knownOf, moveOf};
@@ -37,7 +37,7 @@ pub const FAILED: u64 = 1;
 
 pub const COMPLETE: u64 = 2;
 
-pub const TIMED_OUT: u64 = 3;
+pub const TIME_OUT: u64 = 3;
 
 pub const RESET_RECEIVED: u64 = 4;
 
@@ -57,10 +57,10 @@ const CRC_GOOD: u64 = 1;
 const MOST_DWORD: u64 = 4294967295;
 
 // Ticks that the other side's frame is waited for.
-const MOST_TICKS: u64 = 1000;
+const FULL_TIMER: u64 = 1000;
 
 // What has come so far: the receiver with the data dwords counted in a frame and whether its type is
-// Identify, the identify frame got, the own frame sent, the timer and the outcome. `typed`, `got` and
+// Identify, the identify frame got, our own frame sent, the timer and the outcome. `typed`, `got` and
 // `sent` are flags as numbers, so that `valid` can judge whatever a C caller hands in.
 #[repr(C)]
 pub struct Identification {
@@ -106,13 +106,13 @@ pub fn valid(i: Identification) -> bool
     let both = got & sent;
     let none = i.outcome == NONE;
     let complete = i.outcome == COMPLETE;
-    let timed_out = i.outcome == TIMED_OUT;
+    let timed_out = i.outcome == TIME_OUT;
     let reset = i.outcome == RESET_RECEIVED;
     let awaiting = sent & !got & none;
     let flags_right = (i.typed <= table::ON) & (i.got <= table::ON) & (i.sent <= table::ON);
     let receiver_right = i.receiver <= COMPLETED;
     let count_right = (framed & (i.count <= FRAME_DWORDS)) | (!framed & (i.count == 0));
-    let timer_right = (awaiting & ((1 <= i.timer) & (i.timer <= MOST_TICKS)))
+    let timer_right = (awaiting & ((1 <= i.timer) & (i.timer <= FULL_TIMER)))
         | (!awaiting & (i.timer == 0));
     let got_right = !got | (i.receiver == COMPLETED);
     let typed_right = !typed | (framed & (1 <= i.count));
@@ -230,7 +230,7 @@ fn counted(i: Identification, dword: u64) -> Stepped
     quiet(goes(i, RECEIVING, i.count + 1, type_after(i, dword)))
 }
 
-// Outside a frame data is none of ours.
+// Outside a frame a data dword is ignored.
 fn on_data_dword(i: Identification, dword: u64) -> Stepped
     ensures { λ r. ⌜ r ≡ onDataDword i dword ⌝ }
 {
@@ -265,7 +265,7 @@ fn on_eoaf(i: Identification, crc: u64) -> Stepped
     }
 }
 
-// Inside a frame the frame goes on, and an identify that was got stays got.
+// Inside a frame, and once the identify is got, a HARD_RESET is ignored.
 fn on_hard_reset(i: Identification) -> Stepped
     ensures { λ r. ⌜ r ≡ onHardReset i ⌝ }
 {
@@ -276,7 +276,7 @@ fn on_hard_reset(i: Identification) -> Stepped
     ends(i, RESET_RECEIVED)
 }
 
-// Only the first own frame counts; an identify got before needs no timer.
+// Only our first frame counts; an identify got before needs no timer.
 fn on_own_frame_sent(i: Identification) -> Stepped
     ensures { λ r. ⌜ r ≡ onOwnFrameSent i ⌝ }
 {
@@ -291,7 +291,7 @@ fn on_own_frame_sent(i: Identification) -> Stepped
         next.timer = 0;
         return exchanged(next);
     }
-    next.timer = MOST_TICKS;
+    next.timer = FULL_TIMER;
     exchanged(next)
 }
 
@@ -304,7 +304,7 @@ fn on_tick(i: Identification) -> Stepped
     }
     let left = i.timer - 1;
     if left == 0 {
-        return ends(i, TIMED_OUT);
+        return ends(i, TIME_OUT);
     }
     let mut next = i;
     next.timer = left;
@@ -322,7 +322,7 @@ fn most(event: u64) -> u64
     }
 }
 
-// Codes end at Enable; what is above an event's largest argument it does not have.
+// Codes end at Enable; an argument above the event's largest is not known.
 fn known(event: u64, argument: u64) -> bool
     ensures { λ r. ⌜ r ≡ knownOf event argument ⌝ }
 {

@@ -1,6 +1,6 @@
 -- Once the ticks are due the answer has been given: until it is, the books say that they are not.
 use Prim.Native.Nat.{ℕ, _+_, _≤_}
-use mathlib.Core.Bool.{true, false, _&&_}
+use mathlib.Core.Bool.{true, false}
 use mathlib.Core.List.{List, [], _∷_, _++_}
 use mathlib.Core.Path.{_≡_, refl, ap, subst, _∙_}
 use native.Mathlib.Omega.{arith}
@@ -8,7 +8,7 @@ use borrow.Author.Tests.{eqb-true, eq-eqb}
 use lib.Dec.{eqb}
 use Rattle.table.specs.Choice.{pick}
 use Rattle.table.proofs.Laws.{by-test, parts}
-use Rattle.event.specs.Table.{openOf}
+use Rattle.event.specs.Table.{openOf, sameOpen}
 use Rattle.event.specs.declared.Event.{Event}
 use Rattle.event.specs.declared.Open.{Open}
 use Rattle.phy.specs.Shapes.{freshPhy, noOpen}
@@ -16,24 +16,15 @@ use Rattle.phy.specs.State.{validOf}
 use Rattle.phy.specs.Step.{stepOf}
 use Rattle.phy.specs.declared.Phy.{Phy}
 use Rattle.phy_laws.specs.Waiting.{isAnswer}
+use Rattle.phy_laws.proofs.InUse.{same-open}
 use Rattle.phy_laws.proofs.Steps.{fresh-valid, stays-valid}
 use Rattle.ledger.specs.Log.{Entry, entry, log, after, accepted, answered, many, ticked, tickedInP2, heardAip}
-use Rattle.ledger.specs.Ledger.{due, Waiting, Ledger, free, waiting, broken, grown, sameOpen, begins, through, silent, answers, book, books}
+use Rattle.ledger.specs.Ledger.{due, Waiting, Ledger, free, waiting, broken, grown, begins, through, silent, answers, book, books}
 use Rattle.ledger.specs.Demand.{phyAfter, AnsweredBy}
 use Rattle.ledger.proofs.OneEntry.{Holds, Agrees, not-broken, agree}
 use Rattle.ledger.proofs.Demand.{follow, in-time-by}
 
 -- ---- one entry while an Open waits: it waits on, or is answered
-
--- the arguments of two Opens that test the same are the same
-same-open : (a b : Open) → sameOpen a b ≡ true → a ≡ b
-same-open a b h =
-    let f = parts (eqb (a .destination) (b .destination) && eqb (a .protocol) (b .protocol) && eqb (a .rate) (b .rate) && eqb (a .tag) (b .tag) && eqb (a .blocked) (b .blocked)) (eqb (a .wait) (b .wait)) h in
-    let e = parts (eqb (a .destination) (b .destination) && eqb (a .protocol) (b .protocol) && eqb (a .rate) (b .rate) && eqb (a .tag) (b .tag)) (eqb (a .blocked) (b .blocked)) (f .0) in
-    let d = parts (eqb (a .destination) (b .destination) && eqb (a .protocol) (b .protocol) && eqb (a .rate) (b .rate)) (eqb (a .tag) (b .tag)) (e .0) in
-    let c = parts (eqb (a .destination) (b .destination) && eqb (a .protocol) (b .protocol)) (eqb (a .rate) (b .rate)) (d .0) in
-    let g = parts (eqb (a .destination) (b .destination)) (eqb (a .protocol) (b .protocol)) (c .0) in
-    λ i. record { destination = eqb-true (a .destination) (b .destination) (g .0) i; protocol = eqb-true (a .protocol) (b .protocol) (g .1) i; rate = eqb-true (a .rate) (b .rate) (c .1) i; tag = eqb-true (a .tag) (b .tag) (d .1) i; blocked = eqb-true (a .blocked) (b .blocked) (e .1) i; wait = eqb-true (a .wait) (b .wait) (f .1) i }
 
 data Next (w : Waiting) (x : Entry) : Type 0 where
   waits-on : accepted x ≡ false → x .result .answer ≡ 0 → book (waiting w) x ≡ waiting (through w x) → Next w x

@@ -10,7 +10,7 @@ use Rattle.table.specs.Choice.{pick}
 use Rattle.table.proofs.Laws.{apart, by-test, by-pick, parts}
 use Rattle.table.specs.Refusals.{badEvent}
 use Rattle.event.specs.Names.{txOpen, tick, aipReceived, mostWait}
-use Rattle.event.specs.Table.{openOf, knownOf}
+use Rattle.event.specs.Table.{openOf, knownOf, sameOpen}
 use Rattle.event.specs.declared.Event.{Event}
 use Rattle.event.specs.declared.Open.{Open}
 use Rattle.phy.specs.Names.{P2}
@@ -23,15 +23,15 @@ use Rattle.phy.specs.declared.Stepped.{Stepped}
 use Rattle.phy_laws.specs.Waiting.{waits, isAnswer}
 use Rattle.phy_laws.proofs.Counting.{accepts, heard, ticksOf, aipsOf, left}
 use Rattle.phy_laws.specs.Laws.{Judged}
-use Rattle.phy_laws.proofs.Refusals.{step-is-move, taken-exactly}
+use Rattle.phy_laws.proofs.Refusals.{step-is-move, not-refused-exactly}
 use Rattle.phy_laws.proofs.Shapes.{by-shape}
 use Rattle.phy_laws.proofs.OneStep.{Stepping, wait-known, open-known, at-least-one}
 use Rattle.phy_laws.proofs.InUse.{runs}
 use Rattle.phy_laws.proofs.Steps.{by-way}
 use Rattle.phy_laws.proofs.Answers.{by-tally}
-use Rattle.ledger.specs.Log.{Entry, entry, taken, accepted, answered, ticked, tickedInP2, heardAip}
+use Rattle.ledger.specs.Log.{Entry, entry, notRefused, accepted, answered, ticked, tickedInP2, heardAip}
 use Rattle.ledger.specs.Demand.{oneIfWaiting}
-use Rattle.ledger.specs.Ledger.{due, Waiting, Ledger, free, waiting, broken, grown, sameOpen, begins, through, silent, book}
+use Rattle.ledger.specs.Ledger.{due, Waiting, Ledger, free, waiting, broken, grown, begins, through, silent, book}
 
 -- the books of a phy: free where no request waits; else its request is the accepted Open, grown, and what it may yet take is within what is due
 pub record Holds (p : Phy) (w : Waiting) : Type 0 where
@@ -48,7 +48,7 @@ Agrees p broken = ⊥
 
 same-refl : (o : Open) → sameOpen o o ≡ true
 same-refl o =
-    rw (eq-eqb (o .destination) (o .destination) refl, eq-eqb (o .protocol) (o .protocol) refl, eq-eqb (o .rate) (o .rate) refl, eq-eqb (o .tag) (o .tag) refl, eq-eqb (o .blocked) (o .blocked) refl, eq-eqb (o .wait) (o .wait) refl)
+    rw (eq-eqb (o .destination) (o .destination) refl, eq-eqb (o .protocol) (o .protocol) refl, eq-eqb (o .rate) (o .rate) refl, eq-eqb (o .tag) (o .tag) refl, eq-eqb (o .blockedCount) (o .blockedCount) refl, eq-eqb (o .wait) (o .wait) refl)
 
 pub same : (a b : Open) → a ≡ b → sameOpen a b ≡ true
 same a b e = subst (λ (x : Open). sameOpen a x ≡ true) e (same-refl a)
@@ -73,17 +73,17 @@ grown-longer w =
     by-pick (λ m. m ≡ min mostWait (w .open-as-accepted .wait + (w .ticks-in-P2 + 1))) (leb mostWait (min mostWait n))
     (λ t. omega (arith, leb-true mostWait (min mostWait n) t))
     (λ f. omega (arith, leb-false mostWait (min mostWait n) f)) in
-    ap (λ (v : ℕ). record { destination = w .open-as-accepted .destination; protocol = w .open-as-accepted .protocol; rate = w .open-as-accepted .rate; tag = w .open-as-accepted .tag; blocked = w .open-as-accepted .blocked; wait = v }) e
+    ap (λ (v : ℕ). record { destination = w .open-as-accepted .destination; protocol = w .open-as-accepted .protocol; rate = w .open-as-accepted .rate; tag = w .open-as-accepted .tag; blockedCount = w .open-as-accepted .blockedCount; wait = v }) e
 
 -- an accepted Open begins with its own wait, which is in its range
 grown-begins : (x : Entry) → x .event .sixth ≤ mostWait → openOf (x .event) ≡ grown (begins x)
 grown-begins x h =
     let e : x .event .sixth ≡ min mostWait (x .event .sixth + 0) = omega arith in
-    ap (λ (v : ℕ). record { destination = x .event .first; protocol = x .event .second; rate = x .event .third; tag = x .event .fourth; blocked = x .event .fifth; wait = v }) e
+    ap (λ (v : ℕ). record { destination = x .event .first; protocol = x .event .second; rate = x .event .third; tag = x .event .fourth; blockedCount = x .event .fifth; wait = v }) e
 
 -- ---- refused events count as neither
 
-no-code : (code : ℕ) (x : Entry) → eqb (x .result .refusal) 0 ≡ false → taken code x ≡ false
+no-code : (code : ℕ) (x : Entry) → eqb (x .result .refusal) 0 ≡ false → notRefused code x ≡ false
 no-code code x r = by-test (eqb (x .event .code) code) (λ t. rw (t, r)) (λ f. rw f)
 
 nothing-more : (n : ℕ) (test : Bool) → test ≡ false → n + pick test 1 0 ≡ n
@@ -114,18 +114,18 @@ module _ (p : Phy) (e : Event) (v : validOf p ≡ true) (k : knownOf e ≡ true)
   unrefused code a b c d h =
       let j : Judged p e = record { valid = v; known = k } in
       ap (λ (r : Stepped). r .refusal) (sym (step-is-move p e j))
-      ∙ taken-exactly p e .1 (j, record { opens = λ q. absurd (a (sym h ∙ q)); cancels = λ q. absurd (b (sym h ∙ q)); closes = λ q. absurd (c (sym h ∙ q)); breaks = λ q. absurd (d (sym h ∙ q)); protocol = λ q. absurd (d (sym h ∙ q)) })
+      ∙ not-refused-exactly p e .1 (j, record { opens = λ q. absurd (a (sym h ∙ q)); cancels = λ q. absurd (b (sym h ∙ q)); closes = λ q. absurd (c (sym h ∙ q)); breaks = λ q. absurd (d (sym h ∙ q)); protocol = λ q. absurd (d (sym h ∙ q)) })
 
-  counts : (code : ℕ) → (code ≡ 1 → ⊥) → (code ≡ 2 → ⊥) → (code ≡ 3 → ⊥) → (code ≡ 4 → ⊥) → taken code x ≡ eqb (e .code) code
+  counts : (code : ℕ) → (code ≡ 1 → ⊥) → (code ≡ 2 → ⊥) → (code ≡ 3 → ⊥) → (code ≡ 4 → ⊥) → notRefused code x ≡ eqb (e .code) code
   counts code a b c d =
       by-test (eqb (e .code) code)
       (λ t. rw (t, eq-eqb (moveOf p e .refusal) 0 (unrefused code a b c d (eqb-true (e .code) code t))))
       (λ f. rw f)
 
-  counts-ticks : taken tick x ≡ eqb (e .code) tick
+  counts-ticks : notRefused tick x ≡ eqb (e .code) tick
   counts-ticks = counts tick (omega arith) (omega arith) (omega arith) (omega arith)
 
-  counts-aips : taken aipReceived x ≡ eqb (e .code) aipReceived
+  counts-aips : notRefused aipReceived x ≡ eqb (e .code) aipReceived
   counts-aips = counts aipReceived (omega arith) (omega arith) (omega arith) (omega arith)
 
   -- the request that waits has grown as the books say

@@ -13,7 +13,7 @@ use Rattle.event.specs.Names.{tick, aipReceived}
 use Rattle.event.specs.Table.{openOf, openKnown, knownOf, argumentsKnown, argumentRange}
 use Rattle.event.specs.declared.Event.{Event}
 use Rattle.event.specs.declared.Open.{Open}
-use Rattle.phy.specs.Names.{openTimeout, fullTimer}
+use Rattle.phy.specs.Names.{answerOpenTimeout, fullTimer}
 use Rattle.phy.specs.Shapes.{freshPhy, requesting, quiet, reports}
 use Rattle.phy.specs.State.{validOf, validRequest, validInbound}
 use Rattle.phy.specs.Moves.{onAip, toIdle, onTxOpen, openByLink}
@@ -82,7 +82,7 @@ abbrev asking : ℕ → Open → Phy
 asking t o = requesting none 1 2 t o 0
 
 abbrev failing : ℕ → Open → Phy
-failing t o = requesting none 5 4 t o openTimeout
+failing t o = requesting none 5 4 t o answerOpenTimeout
 
 abbrev Known : Open → Type 0
 Known o = openKnown o ≡ true

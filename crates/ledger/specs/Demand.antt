@@ -6,7 +6,7 @@ use mathlib.Core.Path.{_≡_}
 use lib.ListN.{replicate}
 use Rattle.table.specs.Choice.{pick}
 use Rattle.event.specs.Names.{txOpen, aipReceived, tick, SSP, slowRate}
-use Rattle.event.specs.Table.{openOf}
+use Rattle.event.specs.Table.{eventOf, openOf}
 use Rattle.event.specs.declared.Event.{Event}
 use Rattle.event.specs.declared.Open.{Open}
 use Rattle.phy.specs.Shapes.{freshPhy}
@@ -35,17 +35,18 @@ pub record Lawful (es : List Event) : Type 0 where
   -- no accepted Open is answered twice, each answer carries its own Open's arguments, nothing else is answered
   pub books-hold : booksOf es ≡ broken → ⊥
   -- the books wait exactly while the port does, and for the Open that it holds
-  pub held : waits (phyAfter es .port) ≡ true → (w : Waiting) × (booksOf es ≡ waiting w) × (phyAfter es .request ≡ grown w)
+  pub held :
+      waits (phyAfter es .port) ≡ true → (w : Waiting) × (booksOf es ≡ waiting w) × (phyAfter es .request ≡ grown w)
   pub at-rest : waits (phyAfter es .port) ≡ false → booksOf es ≡ free
   -- accepted Opens equal answers plus the one, if any, still waiting
   pub balance : many accepted (logOf es) ≡ many answered (logOf es) + oneIfWaiting (phyAfter es)
-  -- while one waits, its ticks have not come to what is due
+  -- while one waits, fewer ticks have come than are due
   pub bound : (w : Waiting) → booksOf es ≡ waiting w → w .ticks < due (w .aips)
 
 abbrev pub Demand3 : Type 0
 Demand3 = (es : List Event) → Lawful es
 
--- within fs, from a phy that holds the accepted Open o: the first answer, no acceptance before it, with o's arguments and the wait grown by the ticks in P2 till then
+-- in fs comes the first answer to o: no Open is accepted before it, and it has o's arguments with the wait grown
 pub record AnsweredWithin (p : Phy) (o : Open) (fs : List Event) : Type 0 where
   pub before : List Event
   pub last : Event
@@ -56,24 +57,32 @@ pub record AnsweredWithin (p : Phy) (o : Open) (fs : List Event) : Type 0 where
   pub code : isAnswer (stepOf (after stepOf p before) last .answer) ≡ true
   pub carries :
       stepOf (after stepOf p before) last .answered
-      ≡ grown (record { open-as-accepted = o; ticks-in-P2 = many tickedInP2 (log stepOf p before) + pick (tickedInP2 (entry stepOf (after stepOf p before) last)) 1 0; ticks = 0; aips = 0 })
+      ≡ grown
+      (record {
+        open-as-accepted = o;
+        ticks-in-P2 =
+            many tickedInP2 (log stepOf p before) + pick (tickedInP2 (entry stepOf (after stepOf p before) last)) 1 0;
+        ticks = 0;
+        aips = 0;
+      })
 
 -- once as many ticks have come since an acceptance as are due for the AIPs heard since, the answer has been given
 abbrev pub AnsweredBy : Type 0
 AnsweredBy =
     (es : List Event) (e : Event) (fs : List Event) → accepted (entry stepOf (phyAfter es) e) ≡ true
-    → due (many heardAip (log stepOf (stepOf (phyAfter es) e .next) fs)) ≤ many ticked (log stepOf (stepOf (phyAfter es) e .next) fs)
+    → due (many heardAip (log stepOf (stepOf (phyAfter es) e .next) fs))
+    ≤ many ticked (log stepOf (stepOf (phyAfter es) e .next) fs)
     → AnsweredWithin (stepOf (phyAfter es) e .next) (openOf e) fs
 
 -- ---- for every k some sequence needs that many ticks
 
 -- an event with no argument
 abbrev pub plain : (code : ℕ) → Event
-plain code = record { code = code; first = 0; second = 0; third = 0; fourth = 0; fifth = 0; sixth = 0 }
+plain code = eventOf code []
 
 -- a Tx Open to a destination, its wait 0
 abbrev pub openTo : ℕ → Event
-openTo destination = record { code = txOpen; first = destination; second = SSP; third = slowRate; fourth = 0; fifth = 0; sixth = 0 }
+openTo destination = eventOf txOpen (destination ∷ SSP ∷ slowRate ∷ [])
 
 -- an Open to destination 5
 abbrev pub openToFive : Event

@@ -5,7 +5,7 @@ use mathlib.Core.List.{List, [], _∷_}
 use lib.Dec.{eqb}
 use Rattle.table.specs.Choice.{pick}
 use Rattle.event.specs.Names.{mostWait}
-use Rattle.event.specs.Table.{openOf}
+use Rattle.event.specs.Table.{openOf, sameOpen}
 use Rattle.event.specs.declared.Open.{Open}
 use Rattle.phy.specs.Shapes.{noOpen}
 use Rattle.phy_laws.specs.Waiting.{isAnswer}
@@ -36,15 +36,9 @@ grown w =
       protocol = w .open-as-accepted .protocol;
       rate = w .open-as-accepted .rate;
       tag = w .open-as-accepted .tag;
-      blocked = w .open-as-accepted .blocked;
+      blockedCount = w .open-as-accepted .blockedCount;
       wait = min mostWait (w .open-as-accepted .wait + w .ticks-in-P2);
     }
-
--- two Opens have the same arguments
-abbrev pub sameOpen : Open → Open → Bool
-sameOpen a b =
-    eqb (a .destination) (b .destination) && eqb (a .protocol) (b .protocol) && eqb (a .rate) (b .rate) && eqb (a .tag) (b .tag)
-    && eqb (a .blocked) (b .blocked) && eqb (a .wait) (b .wait)
 
 -- an Open begins to wait
 abbrev pub begins : Entry → Waiting
@@ -71,7 +65,8 @@ answers w x = isAnswer (x .result .answer) && sameOpen (x .result .answered) (gr
 -- one more entry in the books
 unfoldable pub book : Ledger → Entry → Ledger
 book free x = pick (silent x) (pick (accepted x) (waiting (begins x)) free) broken
-book (waiting w) x = pick (accepted x) broken (pick (silent x) (waiting (through w x)) (pick (answers (through w x) x) free broken))
+book (waiting w) x =
+    pick (accepted x) broken (pick (silent x) (waiting (through w x)) (pick (answers (through w x) x) free broken))
 book broken x = broken
 
 -- the books after a log

@@ -35,12 +35,12 @@ after step p [] = p
 after step p (e ∷ es) = after step (step p e .next) es
 
 -- an event that was not refused and has this code
-abbrev pub taken : (code : ℕ) → Entry → Bool
-taken code x = eqb (x .event .code) code && eqb (x .result .refusal) 0
+abbrev pub notRefused : (code : ℕ) → Entry → Bool
+notRefused code x = eqb (x .event .code) code && eqb (x .result .refusal) 0
 
 -- an Open is accepted; an Open is answered
 abbrev pub accepted : Entry → Bool
-accepted x = taken txOpen x
+accepted x = notRefused txOpen x
 
 abbrev pub answered : Entry → Bool
 answered x = not (eqb (x .result .answer) 0)
@@ -50,12 +50,12 @@ abbrev pub many : (Entry → Bool) → List Entry → ℕ
 many test [] = 0
 many test (x ∷ xs) = pick (test x) 1 0 + many test xs
 
--- ticks, ticks that came in P2, and AIPs; refused events count as neither
+-- ticks, ticks that came in P2, and AIPs; refused events count as none of these
 abbrev pub ticked : Entry → Bool
-ticked x = taken tick x
+ticked x = notRefused tick x
 
 abbrev pub tickedInP2 : Entry → Bool
-tickedInP2 x = taken tick x && eqb (x .port) P2
+tickedInP2 x = notRefused tick x && eqb (x .port) P2
 
 abbrev pub heardAip : Entry → Bool
-heardAip x = taken aipReceived x
+heardAip x = notRefused aipReceived x

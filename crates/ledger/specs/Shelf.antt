@@ -16,19 +16,25 @@ use Rattle.ledger.specs.Demand.{logOf, phyAfter, booksOf, AnsweredWithin
 abbrev pub NoHang : Type 0
 NoHang =
     (es : List Event) (e : Event) (fs : List Event) → accepted (entry stepOf (phyAfter es) e) ≡ true
-    → many heardAip (log stepOf (stepOf (phyAfter es) e .next) fs) ≡ 0 → due 0 ≤ many ticked (log stepOf (stepOf (phyAfter es) e .next) fs)
+    → many heardAip (log stepOf (stepOf (phyAfter es) e .next) fs) ≡ 0
+    → due 0 ≤ many ticked (log stepOf (stepOf (phyAfter es) e .next) fs)
     → AnsweredWithin (stepOf (phyAfter es) e .next) (openOf e) fs
 
 -- between two answers there is an acceptance
 abbrev pub AcceptedBetween : Type 0
 AcceptedBetween =
-    (es : List Event) (xs : List Entry) (x : Entry) (ys : List Entry) (y : Entry) (zs : List Entry) → logOf es ≡ xs ++ (x ∷ (ys ++ (y ∷ zs)))
+    (es : List Event) (xs : List Entry) (x : Entry) (ys : List Entry) (y : Entry) (zs : List Entry)
+    → logOf es ≡ xs ++ (x ∷ (ys ++ (y ∷ zs)))
     → answered x ≡ true → answered y ≡ true → many accepted ys ≡ 0 → ⊥
 
 -- a refused event leaves the books as they were
 abbrev pub RefusedLeaves : Type 0
-RefusedLeaves = (es : List Event) (e : Event) → (stepOf (phyAfter es) e .refusal ≡ 0 → ⊥) → book (booksOf es) (entry stepOf (phyAfter es) e) ≡ booksOf es
+RefusedLeaves =
+    (es : List Event) (e : Event) → (stepOf (phyAfter es) e .refusal ≡ 0 → ⊥)
+    → book (booksOf es) (entry stepOf (phyAfter es) e) ≡ booksOf es
 
 -- after HARD_RESET or Phy Disabled nothing waits
 abbrev pub ResetFrees : Type 0
-ResetFrees = (es : List Event) (e : Event) → knownOf e ≡ true → (e .code ≡ hardReset) ⊎ (e .code ≡ phyDisabled) → book (booksOf es) (entry stepOf (phyAfter es) e) ≡ free
+ResetFrees =
+    (es : List Event) (e : Event) → knownOf e ≡ true → (e .code ≡ hardReset) ⊎ (e .code ≡ phyDisabled)
+    → book (booksOf es) (entry stepOf (phyAfter es) e) ≡ free

@@ -8,7 +8,7 @@ use lib.ListN.{replicate}
 use Rattle.table.specs.Choice.{pick}
 use Rattle.event.specs.Names.{breakReceived, tick}
 use Rattle.event.specs.declared.Event.{Event}
-use Rattle.phy.specs.Names.{L0, L1, L5, P2, P4, openTimeout, BREAK, fullTimer}
+use Rattle.phy.specs.Names.{L0, L1, L5, P2, P4, answerOpenTimeout, sentBreak, fullTimer}
 use Rattle.phy.specs.Shapes.{requesting, freshPhy, reports, answers}
 use Rattle.phy.specs.Ticks.{longer}
 use Rattle.phy.specs.Step.{moveOf}
@@ -20,7 +20,9 @@ use Rattle.ledger.specs.Demand.{plain, openToFive}
 
 -- version two: a BREAK in L1 leaves the link idle, and the port in Req_Wait
 unfoldable pub stepTwo : Phy → Event → Stepped
-stepTwo p e = pick (eqb (e .code) breakReceived && eqb (p .link) L1) (reports (requesting (p .settings) L0 P2 0 (p .request) 0) 0 BREAK) (moveOf p e)
+stepTwo p e =
+    pick (eqb (e .code) breakReceived && eqb (p .link) L1)
+    (reports (requesting (p .settings) L0 P2 0 (p .request) 0) 0 sentBreak) (moveOf p e)
 
 -- an Open, a BREAK, and 2,000 ticks
 abbrev pub lostToBreak : List Event
@@ -28,13 +30,15 @@ lostToBreak = openToFive ∷ plain breakReceived ∷ replicate 2000 (plain tick)
 
 -- the Open still waits when its answer is due
 abbrev pub VersionTwoLate : Type 0
-VersionTwoLate = (w : Waiting) × (books free (log stepTwo freshPhy lostToBreak) ≡ waiting w) × (due (w .aips) ≤ w .ticks)
+VersionTwoLate =
+    (w : Waiting) × (books free (log stepTwo freshPhy lostToBreak) ≡ waiting w) × (due (w .aips) ≤ w .ticks)
 
 -- version three: an Open that has failed is answered at once, and again when the link is idle
 unfoldable pub stepThree : Phy → Event → Stepped
 stepThree p e =
     pick (eqb (e .code) tick && eqb (p .link) L1 && leb (p .timer) 1)
-    (answers (requesting (p .settings) L5 P4 fullTimer (longer (p .request)) openTimeout) openTimeout (longer (p .request)) 0 BREAK)
+    (answers (requesting (p .settings) L5 P4 fullTimer (longer (p .request)) answerOpenTimeout)
+    answerOpenTimeout (longer (p .request)) 0 sentBreak)
     (moveOf p e)
 
 -- an Open and n ticks

@@ -15,7 +15,7 @@ use Rattle.lister.specs.declared.Input.the-variants.{Length, Unread as u
 use Rattle.lister.specs.declared.Outcome.{Outcome}
 use Rattle.lister.specs.declared.Outcome.the-variants.{Whole, Damaged, Unwritten, Unread}
 
--- `total`: the input is as long as what was kept of it, or longer than may be listed, or cannot be read; no contract can say which of them
+-- `total`: the input is as long as what was kept, or longer than may be listed, or unread; no contract says which
 abbrev pub Measures : (kept : ℕ) → Input → Type 0
 Measures kept (Length n) = (n ≡ kept) ⊎ ((kept ≡ mostTrace) × (n ≡ suc mostTrace))
 Measures kept unread = Unit

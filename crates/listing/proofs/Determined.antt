@@ -1,11 +1,13 @@
--- Each answer says one thing, so a contract that gives what is said gives the answer.
-use mathlib.Core.Path.{_≡_, refl, sym, ap, _∙_}
+-- Each result says one thing, so a contract that gives what is said gives the result.
+use mathlib.Core.Path.{_≡_, refl}
+use Rattle.table.specs.Results.{TellsOnce}
+use Rattle.table.proofs.Results.{leads-back, by-equation, by-result-lent}
 use Rattle.listing.specs.Contracts.{ToldWritten, wrote, finished, refused, tellsWritten}
-use Rattle.listing.specs.Laws.{WrittenTellsOnce, StartDetermined, LineDetermined}
+use Rattle.listing.specs.Laws.{Determined}
 use Rattle.listing.specs.declared.LineWritten.{LineWritten}
 use Rattle.listing.specs.declared.LineWritten.the-variants.{Line, Done, NoRoom}
 
--- what is said tells which answer said it
+-- what is said tells which result said it
 answer : ToldWritten → LineWritten
 answer (wrote next n) = Line next n
 answer (finished whole) = Done whole
@@ -17,11 +19,13 @@ answers (Line next n) = refl
 answers (Done whole) = refl
 answers NoRoom = refl
 
-pub written-tells-once : WrittenTellsOnce
-written-tells-once r q e = sym (answers r) ∙ ap answer e ∙ answers q
+written-once : TellsOnce tellsWritten
+written-once = leads-back answer answers
 
-pub start-determined : StartDetermined
-start-determined length r q a b = a ∙ sym b
-
-pub line-determined : LineDetermined
-line-determined s progress before at r q after later a b = (written-tells-once r q (a .says ∙ sym (b .says)), a .bytes ∙ sym (b .bytes))
+pub determined : Determined
+determined =
+    record {
+      written-once = written-once;
+      start = λ length. by-equation _;
+      next-line = λ s progress before at. by-result-lent written-once (λ r after a. record { says = a .says; leaves = a .bytes });
+    }

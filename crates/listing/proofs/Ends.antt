@@ -13,7 +13,7 @@ use Rattle.trace.specs.Reading as reading
 use Rattle.trace.specs.Laws.{MovesOn}
 use Rattle.trace.proofs.Accepted.{read-moves-on}
 use Rattle.phy.specs.declared.Phy.{Phy}
-use Rattle.listing.specs.Text.{mostLine}
+use Rattle.listing.specs.Lines.{mostLine}
 use Rattle.listing.specs.Listing.{Next, lineOf, noLine, afterReading, lineAt}
 use Rattle.listing.specs.Contracts.{wrote, finished, refused, fits, bytesOf, writeNext}
 use Rattle.listing.specs.Laws.{linesLeft, LinesFall, WrittenAdvances, FinishedComes, RoomEnough}

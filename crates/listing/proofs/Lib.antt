@@ -1,5 +1,3 @@
-pub mod Copying
-pub mod Parts
 pub mod Determined
 pub mod Refusals
 pub mod Ends

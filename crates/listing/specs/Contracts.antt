@@ -1,30 +1,24 @@
--- What each function promises, cited by its `ensures` and, of the public ones, by the theorem that two results it allows coincide.
+-- What each function promises, cited by its `ensures` and, of the public ones, by `Determined` in Laws.
 use Prim.Native.Nat.{ℕ, _+_, _≤_}
 use mathlib.Core.Bool.{Bool}
-use mathlib.Core.List.{List, [], _++_}
+use mathlib.Core.List.{List, []}
 use mathlib.Core.Path.{_≡_}
 use lib.Dec.{leb}
 use lib.ListN.{length}
 use lib.Seq.{sets}
 use Rattle.table.specs.Choice.{pick}
 use Rattle.table.specs.Refusals.{noRoom}
-use Rattle.listing.specs.Text.{mostLine, Holds}
+use Rattle.listing.specs.Lines.{mostLine}
 use Rattle.listing.specs.Listing.{Next, lineOf, noLine, startOf, lineAt}
 use Rattle.listing.specs.declared.Progress.{Progress}
 use Rattle.listing.specs.declared.LineWritten.{LineWritten}
 use Rattle.listing.specs.declared.LineWritten.the-variants.{Line, Done, NoRoom}
-use Rattle.listing.specs.declared.text.Text.{Text}
-
--- `with_part` of a text: whatever it held, it then holds with the part behind it
-pub record Adds (t : Text) (part : List ℕ) (r : Text) : Type 0 where
-  pub grown : r .length ≡ t .length + length part
-  pub behind : (bytes : List ℕ) → Holds t bytes → Holds r (bytes ++ part)
 
 -- `start` of a trace of a length
 abbrev pub StartsListing : ℕ → Progress → Type 0
 StartsListing length r = r ≡ startOf length
 
--- what writing a line says: the progress after it and how many bytes it wrote, that there is none, or a refusal's number
+-- what writing a line says: the progress after it and its length, that there is none, or a refusal's number
 pub data ToldWritten : Type 0 where
   wrote : Progress → ℕ → ToldWritten
   finished : (whole : Bool) → ToldWritten
@@ -44,12 +38,12 @@ abbrev pub writeNext : Next → List ℕ → ℕ → ToldWritten
 writeNext (lineOf bytes next) buffer at = pick (fits bytes buffer at) (wrote next (length bytes)) (refused noRoom)
 writeNext (noLine whole) buffer at = finished whole
 
--- the buffer afterwards: the line at the place, all other bytes as before; where there is no line or no room, nothing is written
+-- the buffer afterwards: the line at the place, if there is one and it fits; all other bytes as before
 abbrev pub bufferAfter : Next → List ℕ → ℕ → List ℕ
 bufferAfter (lineOf bytes next) buffer at = pick (fits bytes buffer at) (sets buffer at bytes) buffer
 bufferAfter (noLine whole) buffer at = buffer
 
--- what each answer says, as the paper numbers it
+-- what each result says, as the paper numbers it
 abbrev pub tellsWritten : LineWritten → ToldWritten
 tellsWritten (Line next n) = wrote next n
 tellsWritten (Done whole) = finished whole

@@ -1,4 +1,4 @@
--- What is promised of a listing beyond the contracts. Each statement is proved under its own name, in the file of proofs/ that stands beside its heading.
+-- What is promised of a listing beyond the contracts. A heading names the files of proofs/.
 use Prim.Native.Nat.{ℕ, suc, _+_, _-_, _≤_, _<_}
 use mathlib.Core.Bool.{Bool, true}
 use mathlib.Core.List.{List, [], _++_}
@@ -6,31 +6,25 @@ use mathlib.Core.Logic.{_↔_}
 use mathlib.Core.Path.{_≡_}
 use lib.ListN.{length}
 use Rattle.table.specs.Refusals.{noRoom}
+use Rattle.table.specs.Results.{TellsOnce, Determines, DeterminesLent}
 use Rattle.event.specs.declared.Event.{Event}
 use Rattle.trace.specs.Laws.{ReadsAll}
-use Rattle.listing.specs.Text.{mostLine}
-use Rattle.listing.specs.Lines.{endLine}
+use Rattle.listing.specs.Lines.{mostLine, endLine}
 use Rattle.listing.specs.Listing.{mostTrace, Lists, Next, lineOf, noLine, startOf, lineAt}
-use Rattle.listing.specs.Contracts.{StartsListing, WritesLine, wrote, finished, refused, bytesOf, writeNext, bufferAfter, tellsWritten}
+use Rattle.listing.specs.Contracts.{StartsListing, WritesLine, wrote, finished, refused, bytesOf, writeNext}
+use Rattle.listing.specs.Contracts.{bufferAfter, tellsWritten}
 use Rattle.listing.specs.declared.Progress.{Progress}
 use Rattle.listing.specs.declared.Progress.the-variants.{Header, Events, TooLong, Done}
 use Rattle.listing.specs.declared.LineWritten.{LineWritten}
 
--- ---- each answer says one thing (proofs/Determined)
+-- ---- results are determined (proofs/Determined)
 
--- no two answers of `next_line` say the same
-abbrev pub WrittenTellsOnce : Type 0
-WrittenTellsOnce = (r q : LineWritten) → tellsWritten r ≡ tellsWritten q → r ≡ q
-
--- two results that `start` may give coincide
-abbrev pub StartDetermined : Type 0
-StartDetermined = (length : ℕ) (r q : Progress) → StartsListing length r → StartsListing length q → r ≡ q
-
--- two results that `next_line` may give coincide, and so do the buffers that it may leave
-abbrev pub LineDetermined : Type 0
-LineDetermined =
-    (s : List ℕ) (progress : Progress) (before : List ℕ) (at : ℕ) (r q : LineWritten) (after later : List ℕ)
-    → WritesLine s progress before at r after → WritesLine s progress before at q later → (r ≡ q) × (after ≡ later)
+-- each result says one thing; two that a function may give coincide, as do the buffers that it may leave
+pub record Determined : Type 0 where
+  pub written-once : TellsOnce tellsWritten
+  pub start : (length : ℕ) → Determines (StartsListing length)
+  pub next-line :
+      (s : List ℕ) (progress : Progress) (before : List ℕ) (at : ℕ) → DeterminesLent (WritesLine s progress before at)
 
 -- ---- a refusal exactly when (proofs/Refusals)
 
@@ -43,7 +37,8 @@ NoRoomExactly =
 
 -- and then the buffer is as it was
 abbrev pub NoRoomKeeps : Type 0
-NoRoomKeeps = (n : Next) (buffer : List ℕ) (at : ℕ) → writeNext n buffer at ≡ refused noRoom → bufferAfter n buffer at ≡ buffer
+NoRoomKeeps =
+    (n : Next) (buffer : List ℕ) (at : ℕ) → writeNext n buffer at ≡ refused noRoom → bufferAfter n buffer at ≡ buffer
 
 -- ---- line by line (proofs/Ends)
 
@@ -56,7 +51,9 @@ linesLeft s (Done whole) = 0
 
 -- each line leaves fewer
 abbrev pub LinesFall : Type 0
-LinesFall = (s : List ℕ) (progress : Progress) (bytes : List ℕ) (next : Progress) → lineAt s progress ≡ lineOf bytes next → linesLeft s next < linesLeft s progress
+LinesFall =
+    (s : List ℕ) (progress : Progress) (bytes : List ℕ) (next : Progress) → lineAt s progress ≡ lineOf bytes next
+    → linesLeft s next < linesLeft s progress
 
 -- a line written is the one that comes next, leaves fewer, and lies within the buffer
 pub record Advances (s : List ℕ) (progress next : Progress) (before : List ℕ) (at n : ℕ) : Type 0 where
@@ -67,7 +64,8 @@ pub record Advances (s : List ℕ) (progress next : Progress) (before : List ℕ
 
 abbrev pub WrittenAdvances : Type 0
 WrittenAdvances =
-    (s : List ℕ) (progress : Progress) (before : List ℕ) (at : ℕ) (r : LineWritten) (after : List ℕ) (next : Progress) (n : ℕ)
+    (s : List ℕ) (progress : Progress) (before : List ℕ) (at : ℕ) (r : LineWritten) (after : List ℕ) (next : Progress)
+    (n : ℕ)
     → WritesLine s progress before at r after → tellsWritten r ≡ wrote next n → Advances s progress next before at n
 
 -- nothing more is written where no line comes, and the outcome is that of the progress
@@ -130,6 +128,8 @@ pub record EndsWith (bytes last : List ℕ) : Type 0 where
   pub front : List ℕ
   pub whole : bytes ≡ front ++ last
 
--- the listing of a trace that is read to its end without a fault ends with the trace's length and the number of its events
+-- the listing of a trace that is read without a fault ends with the trace's length and its number of events
 abbrev pub EndTells : Type 0
-EndTells = (s bytes : List ℕ) (es : List Event) → length s ≤ mostTrace → ReadsAll s 0 es → Lists s bytes → EndsWith bytes (endLine (length s) (length es))
+EndTells =
+    (s bytes : List ℕ) (es : List Event) → length s ≤ mostTrace → ReadsAll s 0 es → Lists s bytes
+    → EndsWith bytes (endLine (length s) (length es))

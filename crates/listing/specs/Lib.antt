@@ -1,5 +1,4 @@
 pub mod Words
-pub mod Text
 pub mod Lines
 pub mod Listing
 pub mod Contracts

@@ -3,45 +3,34 @@ use Prim.Native.Nat.{ℕ}
 use mathlib.Core.List.{List, [], _∷_, _++_}
 use Rattle.event.specs.declared.Event.{Event}
 use Rattle.phy.specs.declared.Stepped.{Stepped}
-use Rattle.listing.specs.Words.{space, newline, placeWord, eventWord, refusalWord, answerWord, noticeWord, sentWord, linkWord, portWord, endWord, eventsWord, stopWord, tooWord, longWord}
-use Rattle.output.specs.Decimal.{decimal}
+use Rattle.output.specs.Writing.{newline, more, line}
+use Rattle.listing.specs.Words.{ascii}
 
--- what stands after a part of a line: a space where others follow, and else the line's end
-abbrev pub after : (others : List (List ℕ)) → ℕ
-after [] = newline
-after (_ ∷ _) = space
-
--- a line: its parts, each with what stands after it
-abbrev pub line : List (List ℕ) → List ℕ
-line [] = []
-line (part ∷ others) = part ++ (after others ∷ line others)
+-- no line of numbers below 2^64 is longer: eight numbers of twenty digits, each with the byte after it
+abbrev pub mostLine : ℕ
+mostLine = 168
 
 -- the names of the columns
 abbrev pub headerLine : List ℕ
-headerLine = line (placeWord ∷ eventWord ∷ refusalWord ∷ answerWord ∷ noticeWord ∷ sentWord ∷ linkWord ∷ portWord ∷ [])
+headerLine = ascii "place event refusal answer notice sent link port\n"
 
 -- an event whose first byte is at a place, and what its step gave: the codes, and link and port after it
 abbrev pub eventLine : (place : ℕ) → Event → Stepped → List ℕ
 eventLine place e s =
-    line
-    (decimal place
-    ∷ decimal (e .code)
-    ∷ decimal (s .refusal)
-    ∷ decimal (s .answer)
-    ∷ decimal (s .notice)
-    ∷ decimal (s .sent)
-    ∷ decimal (s .next .link)
-    ∷ decimal (s .next .port)
-    ∷ [])
+    line place (e .code ∷ s .refusal ∷ s .answer ∷ s .notice ∷ s .sent ∷ s .next .link ∷ s .next .port ∷ [])
+
+-- a number behind each of two words
+abbrev pub lastLine : (word : List ℕ) → (place : ℕ) → (other : List ℕ) → (n : ℕ) → List ℕ
+lastLine word place other n = word ++ (more (place ∷ []) ++ (other ++ (more (n ∷ []) ++ (newline ∷ []))))
 
 -- the trace's end, and the number of its events
 abbrev pub endLine : (place count : ℕ) → List ℕ
-endLine place count = line (endWord ∷ decimal place ∷ eventsWord ∷ decimal count ∷ [])
+endLine place count = lastLine (ascii "end") place (ascii " events") count
 
 -- a fault of the trace: the place of the event's first byte and the number of the refusal
 abbrev pub stopLine : (place refusal : ℕ) → List ℕ
-stopLine place refusal = line (stopWord ∷ decimal place ∷ refusalWord ∷ decimal refusal ∷ [])
+stopLine place refusal = lastLine (ascii "stop") place (ascii " refusal") refusal
 
 -- all that is said of a trace that is too long
 abbrev pub tooLongLine : List ℕ
-tooLongLine = line (tooWord ∷ longWord ∷ [])
+tooLongLine = ascii "too long\n"

@@ -24,7 +24,8 @@ mostTrace = 65536
 -- these are the lines of a trace from a place on, for a phy that has come there after `count` events
 pub data ListsFrom (s : List ℕ) : (place count : ℕ) → Phy → List ℕ → Type 0 where
   ended : {place count : ℕ} {p : Phy} → readEvent s place ≡ end → ListsFrom s place count p (endLine place count)
-  stopped : {place count n at : ℕ} {p : Phy} → readEvent s place ≡ refused n at → ListsFrom s place count p (stopLine at n)
+  stopped :
+      {place count n at : ℕ} {p : Phy} → readEvent s place ≡ refused n at → ListsFrom s place count p (stopLine at n)
   taken :
       {place count next : ℕ} {p : Phy} {e : Event} {others : List ℕ}
       → readEvent s place ≡ event e next → ListsFrom s next (suc count) (stepOf p e .next) others
@@ -52,7 +53,8 @@ oneMore count = (count + 1) % 2 ^ 64
 
 -- the line of what stands at a place
 abbrev pub afterReading : (place count : ℕ) → Phy → Told → Next
-afterReading place count p (event e next) = lineOf (eventLine place e (stepOf p e)) (Events next (oneMore count) (stepOf p e .next))
+afterReading place count p (event e next) =
+    lineOf (eventLine place e (stepOf p e)) (Events next (oneMore count) (stepOf p e .next))
 afterReading place count p end = lineOf (endLine place count) (Done true)
 afterReading place count p (refused n at) = lineOf (stopLine at n) (Done false)
 

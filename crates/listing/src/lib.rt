@@ -1,19 +1,17 @@
 // The listing of a trace, line by line: what a fresh phy does at each event. Whoever lists holds a
 // `Progress` and asks for one line after the other.
 mod lines;
-mod text;
 
 ghost use mathlib.Core.Bool.{false};
-ghost use mathlib.Core.List.{List};
-ghost use Prim.Native.Nat.{ℕ, _≤_};
-ghost use Rattle.listing.specs.Text.{Holds, mostLine};
 ghost use Rattle.listing.specs.Lines.{stopLine};
 ghost use Rattle.listing.specs.Listing.{lineOf, afterReading};
 ghost use Rattle.listing.specs.Contracts.{StartsListing, PutsLine, WritesLine};
 ghost use Rattle.listing.specs.declared.Progress.the-variants.{Done as Progress·Done};
 ghost use Rattle.trace.specs.Reading.{readEvent};
+use lines::put_event;
+use lines::put_last;
+use lines::put_line;
 use phy::Phy;
-use text::Text;
 use trace::EventRead;
 
 // A longer trace is not listed.
@@ -46,29 +44,11 @@ pub fn start(length: usize) -> Progress
     }
 }
 
-// A line's text at a place of a buffer, if all of it fits.
-fn put_line(text: Text, next: Progress, out: &mut [u8], at: usize) -> LineWritten
-    requires { ⌜ text .length ≤ mostLine ⌝ }
-    ensures { λ r. ⌜ ((bytes : List ℕ) → Holds text bytes → PutsLine (lineOf bytes next) (now (out .entry)) at r (now (out .exit))) ⌝ }
-{
-    let length = text.length;
-    if out.len() < at {
-        return LineWritten::NoRoom;
-    }
-    if out.len() - at < length {
-        return LineWritten::NoRoom;
-    }
-    let bytes = text.bytes;
-    text::copy(&bytes[..length], out, at);
-    LineWritten::Line { next, length }
-}
-
 // The line of a fault, after which nothing comes.
 fn put_stop(place: usize, refusal: u64, out: &mut [u8], at: usize) -> LineWritten
     ensures { λ r. ⌜ PutsLine (lineOf (stopLine place refusal) (Progress·Done false)) (now (out .entry)) at r (now (out .exit)) ⌝ }
 {
-    let stopped = Progress::Done { whole: false };
-    put_line(lines::stop_line(place, refusal), stopped, out, at)
+    put_last(b"stop", place, b" refusal", refusal, false, out, at)
 }
 
 // The line of what stands at a place: an event, the trace's end or a fault.
@@ -91,12 +71,9 @@ fn next_event(
                 count: std::num::wrapping_add_u64(count, 1),
                 phy: after,
             };
-            put_line(lines::event_line(place, event, stepped), progress, out, at)
+            put_event(place, event, stepped, progress, out, at)
         }
-        EventRead::End => {
-            let ended = Progress::Done { whole: true };
-            put_line(lines::end_line(place, count), ended, out, at)
-        }
+        EventRead::End => put_last(b"end", place, b" events", count, true, out, at),
         EventRead::BadEvent(first) => put_stop(first, table::BAD_EVENT, out, at),
         EventRead::Cut(first) => put_stop(first, table::CUT, out, at),
         EventRead::Overlong(first) => put_stop(first, table::OVERLONG, out, at),
@@ -115,12 +92,13 @@ pub fn next_line(trace: &[u8], progress: Progress, out: &mut [u8], at: usize) ->
                 count: 0,
                 phy: phy::fresh(),
             };
-            put_line(lines::header_line(), first, out, at)
+            let line = b"place event refusal answer notice sent link port\n";
+            put_line(line, first, out, at)
         }
         Progress::Events { place, count, phy } => next_event(trace, place, count, phy, out, at),
         Progress::TooLong => {
             let unlisted = Progress::Done { whole: false };
-            put_line(lines::too_long_line(), unlisted, out, at)
+            put_line(b"too long\n", unlisted, out, at)
         }
         Progress::Done { whole } => LineWritten::Done { whole },
     }

@@ -1,57 +1,84 @@
-// Each kind of line, with its newline.
-ghost use Rattle.listing.specs.Text.{Holds};
-ghost use Rattle.listing.specs.Lines.{headerLine, eventLine, endLine, stopLine, tooLongLine};
-use crate::text::Text;
-use crate::text::empty;
-use crate::text::with_number;
-use crate::text::with_part;
+// Each kind of line. It is made in an array of its own, so that its length is known before a byte of
+// the caller's buffer changes.
+ghost use Prim.Native.Nat.{_+_, _≤_};
+ghost use lib.ListN.{length};
+ghost use Rattle.listing.specs.Lines.{mostLine, eventLine, lastLine};
+ghost use Rattle.listing.specs.Listing.{lineOf};
+ghost use Rattle.listing.specs.Contracts.{PutsLine};
+ghost use Rattle.listing.specs.declared.Progress.the-variants.{Done as Progress·Done};
+use crate::LineWritten;
+use crate::Progress;
 use event::Event;
+use output::put_all;
+use output::put_more;
+use output::put_numbers;
 use phy::Stepped;
 
-// The names of the columns.
-pub fn header_line() -> Text
-    ensures { λ r. ⌜ Holds r headerLine ⌝ }
+// The longest line: eight numbers, each with the byte after it.
+const MOST_LINE: usize = 168;
+
+// A line at a place of a buffer, if all of it fits.
+pub(crate) fn put_line(line: &[u8], next: Progress, out: &mut [u8], at: usize) -> LineWritten
+    requires { ⌜ length (now line) ≤ mostLine ⌝ }
+    ensures { λ r. ⌜ PutsLine (lineOf (now (line .entry)) next) (now (out .entry)) at r (now (out .exit)) ⌝ }
 {
-    with_part(
-        empty(),
-        b"place event refusal answer notice sent link port\n",
-    )
+    let length = line.len();
+    if out.len() < at {
+        return LineWritten::NoRoom;
+    }
+    if out.len() - at < length {
+        return LineWritten::NoRoom;
+    }
+    put_all(out, at, line);
+    LineWritten::Line { next, length }
 }
 
 // An event at a place: its code, what the step reported, and the phy after it.
-pub fn event_line(place: usize, event: Event, stepped: Stepped) -> Text
-    ensures { λ r. ⌜ Holds r (eventLine place event stepped) ⌝ }
+pub(crate) fn put_event(
+    place: usize,
+    event: Event,
+    stepped: Stepped,
+    next: Progress,
+    out: &mut [u8],
+    at: usize,
+) -> LineWritten
+    ensures { λ r. ⌜ PutsLine (lineOf (eventLine place event stepped) next) (now (out .entry)) at r (now (out .exit)) ⌝ }
 {
     let after = stepped.next;
-    let to_place = with_number(empty(), place as u64, b' ');
-    let to_event = with_number(to_place, event.code, b' ');
-    let to_refusal = with_number(to_event, stepped.refusal, b' ');
-    let to_answer = with_number(to_refusal, stepped.answer, b' ');
-    let to_notice = with_number(to_answer, stepped.notice, b' ');
-    let to_sent = with_number(to_notice, stepped.sent, b' ');
-    let to_link = with_number(to_sent, after.link, b' ');
-    with_number(to_link, after.port, b'\n')
+    let others = [
+        event.code,
+        stepped.refusal,
+        stepped.answer,
+        stepped.notice,
+        stepped.sent,
+        after.link,
+        after.port,
+    ];
+    let mut line = [0u8; MOST_LINE];
+    let end = put_numbers(&mut line, 0, place as u64, &others);
+    let length = put_all(&mut line, end, b"\n");
+    put_line(&line[..length], next, out, at)
 }
 
-// The trace's end, and how many events came before it.
-pub fn end_line(place: usize, count: u64) -> Text
-    ensures { λ r. ⌜ Holds r (endLine place count) ⌝ }
+// The last line: a place and a number, each behind its word. Both numbers and the newline take 43 bytes
+// at most.
+pub(crate) fn put_last(
+    word: &[u8],
+    place: usize,
+    other: &[u8],
+    value: u64,
+    whole: bool,
+    out: &mut [u8],
+    at: usize,
+) -> LineWritten
+    requires { ⌜ length (now word) + length (now other) + 43 ≤ mostLine ⌝ }
+    ensures { λ r. ⌜ PutsLine (lineOf (lastLine (now (word .entry)) place (now (other .entry)) value) (Progress·Done whole)) (now (out .entry)) at r (now (out .exit)) ⌝ }
 {
-    let to_place = with_number(with_part(empty(), b"end "), place as u64, b' ');
-    with_number(with_part(to_place, b"events "), count, b'\n')
-}
-
-// A fault of the trace, at the first byte of the event that it spoils.
-pub fn stop_line(place: usize, refusal: u64) -> Text
-    ensures { λ r. ⌜ Holds r (stopLine place refusal) ⌝ }
-{
-    let to_place = with_number(with_part(empty(), b"stop "), place as u64, b' ');
-    with_number(with_part(to_place, b"refusal "), refusal, b'\n')
-}
-
-// All that is said of a trace that is too long.
-pub fn too_long_line() -> Text
-    ensures { λ r. ⌜ Holds r tooLongLine ⌝ }
-{
-    with_part(empty(), b"too long\n")
+    let mut line = [0u8; MOST_LINE];
+    let first = put_all(&mut line, 0, word);
+    let second = put_more(&mut line, first, &[place as u64]);
+    let third = put_all(&mut line, second, other);
+    let fourth = put_more(&mut line, third, &[value]);
+    let length = put_all(&mut line, fourth, b"\n");
+    put_line(&line[..length], Progress::Done { whole }, out, at)
 }

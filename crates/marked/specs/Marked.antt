@@ -7,11 +7,13 @@ use Rattle.table.specs.Choice.{pick}
 use Rattle.table.specs.Refusals.{busy, overlong}
 use Rattle.number.specs.Reading.{Told, value, refused, readNumber}
 use Rattle.number.specs.Writing.{numberBytes}
-use Rattle.dws.specs.Names.{syncAcquired, acquireSync, invalid, dataDword, primitive}
+use Rattle.dws.specs.Names.{syncAcquired, acquireSync, invalidDword, dataDword, primitive}
 use Rattle.dws.specs.Laws.{run}
+use Rattle.event.specs.Table.{eventOf}
 use Rattle.event.specs.Names.{SSP, cancelOpen, acceptOpens, openReceived, aipReceived, breakReceived, tick}
 use Rattle.event.specs.declared.Event.{Event}
-use Rattle.phy.specs.Names.{collided, openedByDestination, openedByOther, openTimeout, portLayerRequest}
+use Rattle.phy.specs.Names.{answerCollided, answerOpenedByDestination, answerOpenedByOther, answerOpenTimeout}
+use Rattle.phy.specs.Names.{answerPortLayerRequest}
 use Rattle.ledger.specs.Log.{Entry, answered, ticked}
 use Rattle.ledger.specs.Demand.{plain, openTo, logOf}
 
@@ -21,11 +23,15 @@ pub record Case : Type 0 where
   pub given : List ℕ
   pub said : List ℕ
 
+-- a case as it is written
+abbrev pub gives : (number : ℕ) (given said : List ℕ) → Case
+gives number given said = record { number = number; given = given; said = said }
+
 -- ---- events
 
 -- an OPEN received from a source
 abbrev pub openFrom : ℕ → Event
-openFrom source = record { code = openReceived; first = source; second = SSP; third = 0; fourth = 0; fifth = 0; sixth = 0 }
+openFrom source = eventOf openReceived (source ∷ SSP ∷ [])
 
 abbrev pub ticks : ℕ → List Event
 ticks n = replicate n (plain tick)
@@ -40,7 +46,8 @@ answersIn (x ∷ xs) = pick (answered x) (x .result .answer ∷ x .result .answe
 -- the code of each answer, and the tick at which it came, after n ticks
 abbrev pub answersAt : (n : ℕ) → List Entry → List ℕ
 answersAt n [] = []
-answersAt n (x ∷ xs) = pick (answered x) (x .result .answer ∷ (n + pick (ticked x) 1 0) ∷ []) [] ++ answersAt (n + pick (ticked x) 1 0) xs
+answersAt n (x ∷ xs) =
+    pick (answered x) (x .result .answer ∷ (n + pick (ticked x) 1 0) ∷ []) [] ++ answersAt (n + pick (ticked x) 1 0) xs
 
 -- each refusal
 abbrev pub refusalsIn : List Entry → List ℕ
@@ -67,56 +74,58 @@ refusalsTo es = refusalsIn (logOf es)
 
 -- DWS at 3: invalid, valid, valid is 3
 abbrev pub M1 : Case
-M1 = record { number = 1; given = run syncAcquired (invalid ∷ dataDword ∷ primitive ∷ []) ∷ []; said = syncAcquired ∷ [] }
+M1 = gives 1 (run syncAcquired (invalidDword ∷ dataDword ∷ primitive ∷ []) ∷ []) (syncAcquired ∷ [])
 
 -- DWS at 3: the pair invalid, valid three times, then invalid, is 0
 abbrev pub M2 : Case
-M2 = record { number = 2; given = run syncAcquired (invalid ∷ dataDword ∷ invalid ∷ dataDword ∷ invalid ∷ dataDword ∷ invalid ∷ []) ∷ []; said = acquireSync ∷ [] }
+M2 =
+    gives 2
+    (run syncAcquired
+    (invalidDword ∷ dataDword ∷ invalidDword ∷ dataDword ∷ invalidDword ∷ dataDword ∷ invalidDword ∷ []) ∷ [])
+    (acquireSync ∷ [])
 
 -- Tx Open and 1,999 ticks: no answer
 abbrev pub M3 : Case
-M3 = record { number = 3; given = answersTo (openTo 5 ∷ ticks 1999); said = [] }
+M3 = gives 3 (answersTo (openTo 5 ∷ ticks 1999)) []
 
 -- one tick more: 69, with a wait of 1,000
 abbrev pub M4 : Case
-M4 = record { number = 4; given = answersTo (openTo 5 ∷ ticks 2000); said = openTimeout ∷ 1000 ∷ [] }
+M4 = gives 4 (answersTo (openTo 5 ∷ ticks 2000)) (answerOpenTimeout ∷ 1000 ∷ [])
 
 -- Tx Open, 999 ticks, an AIP, 2,000 ticks: 69 at tick 2,999
 abbrev pub M5 : Case
-M5 = record { number = 5; given = answersTimed (openTo 5 ∷ (ticks 999 ++ (plain aipReceived ∷ ticks 2000))); said = openTimeout ∷ 2999 ∷ [] }
+M5 = gives 5 (answersTimed (openTo 5 ∷ (ticks 999 ++ (plain aipReceived ∷ ticks 2000)))) (answerOpenTimeout ∷ 2999 ∷ [])
 
 -- Accept, OPEN from 7, Tx Open to 7, tick: 52, with a wait of 1
 abbrev pub M6 : Case
-M6 = record { number = 6; given = answersTo (plain acceptOpens ∷ openFrom 7 ∷ openTo 7 ∷ plain tick ∷ []); said = openedByDestination ∷ 1 ∷ [] }
+M6 =
+    gives 6
+    (answersTo (plain acceptOpens ∷ openFrom 7 ∷ openTo 7 ∷ plain tick ∷ []))
+    (answerOpenedByDestination ∷ 1 ∷ [])
 
 -- the same with a Tx Open to 8: 53
 abbrev pub M7 : Case
-M7 = record { number = 7; given = answersTo (plain acceptOpens ∷ openFrom 7 ∷ openTo 8 ∷ plain tick ∷ []); said = openedByOther ∷ 1 ∷ [] }
+M7 = gives 7 (answersTo (plain acceptOpens ∷ openFrom 7 ∷ openTo 8 ∷ plain tick ∷ [])) (answerOpenedByOther ∷ 1 ∷ [])
 
 -- OPEN, BREAK, Tx Open, tick: 51
 abbrev pub M8 : Case
-M8 = record { number = 8; given = answersTo (openFrom 7 ∷ plain breakReceived ∷ openTo 5 ∷ plain tick ∷ []); said = collided ∷ 1 ∷ [] }
+M8 = gives 8 (answersTo (openFrom 7 ∷ plain breakReceived ∷ openTo 5 ∷ plain tick ∷ [])) (answerCollided ∷ 1 ∷ [])
 
 -- Tx Open, Cancel, BREAK: 71
 abbrev pub M9 : Case
-M9 = record { number = 9; given = answersTo (openTo 5 ∷ plain cancelOpen ∷ plain breakReceived ∷ []); said = portLayerRequest ∷ 0 ∷ [] }
+M9 = gives 9 (answersTo (openTo 5 ∷ plain cancelOpen ∷ plain breakReceived ∷ [])) (answerPortLayerRequest ∷ 0 ∷ [])
 
 -- Tx Open twice: the second is refused with 3
 abbrev pub M10 : Case
-M10 = record { number = 10; given = refusalsTo (openTo 5 ∷ openTo 5 ∷ []); said = 0 ∷ busy ∷ [] }
+M10 = gives 10 (refusalsTo (openTo 5 ∷ openTo 5 ∷ [])) (0 ∷ busy ∷ [])
 
 -- 300 is AC 02: written so, and read back with the place after it
 abbrev pub M11 : Case
-M11 =
-    record {
-      number = 11;
-      given = numberBytes 300 ++ numbersOf (readNumber (0xAC ∷ 0x02 ∷ []) 0);
-      said = 0xAC ∷ 0x02 ∷ 0 ∷ 300 ∷ 2 ∷ [];
-    }
+M11 = gives 11 (numberBytes 300 ++ numbersOf (readNumber (0xAC ∷ 0x02 ∷ []) 0)) (0xAC ∷ 0x02 ∷ 0 ∷ 300 ∷ 2 ∷ [])
 
 -- 80 00 is Overlong
 abbrev pub M12 : Case
-M12 = record { number = 12; given = numbersOf (readNumber (0x80 ∷ 0x00 ∷ []) 0); said = overlong ∷ [] }
+M12 = gives 12 (numbersOf (readNumber (0x80 ∷ 0x00 ∷ []) 0)) (overlong ∷ [])
 
 abbrev pub marked : List Case
 marked = M1 ∷ M2 ∷ M3 ∷ M4 ∷ M5 ∷ M6 ∷ M7 ∷ M8 ∷ M9 ∷ M10 ∷ M11 ∷ M12 ∷ []

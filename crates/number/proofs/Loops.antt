@@ -79,13 +79,13 @@ writing-done {buffer = buffer} {rest} {at} w k =
 pub no-room : (v : ℕ) (before : List ℕ) (place : ℕ) → length before < place + length (numberBytes v) → WritesNumber v before place NoRoom before
 no-room v before place h =
     let t : fits v before place ≡ false = lt-leb (place + length (numberBytes v)) (length before) h in
-    record { says = rw t; bytes = rw t }
+    record { says = rw t; leaves = rw t }
 
 pub with-room : (v : ℕ) (before : List ℕ) (place n : ℕ) (after : List ℕ) → place + length (numberBytes v) ≤ length before
     → n ≡ length (numberBytes v) → after ≡ sets before place (numberBytes v) → WritesNumber v before place (Length n) after
 with-room v before place n after h e b =
     let t : fits v before place ≡ true = le-leb (place + length (numberBytes v)) (length before) h in
-    record { says = rw t (ap wrote e); bytes = rw t b }
+    record { says = rw t (ap wrote e); leaves = rw t b }
 
 -- ---- reading: the value of the groups passed, their weight, and what the others say above them
 abbrev pub onto : (passed weight : ℕ) → Told → Told

@@ -1,9 +1,10 @@
--- What each function promises, cited by its `ensures` and, of the public ones, by the theorem that two results it allows coincide.
+-- What each function promises, cited by its `ensures` and, of the public ones, by `Determined` in Laws.
 use Prim.Native.Nat.{ℕ, _≤_, _<_}
 use mathlib.Core.Bool.{false}
 use mathlib.Core.List.{List}
 use mathlib.Core.Path.{_≡_}
 use lib.ListN.{length}
+use Rattle.table.specs.Results.{Leaves}
 use Rattle.number.specs.Reading.{lastGroup, readNumber, tells}
 use Rattle.number.specs.Writing.{numberBytes, writeNumber, bufferAfter, tellsWritten}
 use Rattle.number.specs.declared.NumberRead.{NumberRead}
@@ -28,6 +29,6 @@ abbrev pub CountsBytes : ℕ → ℕ → Type 0
 CountsBytes v r = r ≡ length (numberBytes v)
 
 -- `write_number` of v into the buffer `before` at a place, which leaves it as `after`
-pub record WritesNumber (v : ℕ) (before : List ℕ) (place : ℕ) (r : NumberWritten) (after : List ℕ) : Type 0 where
-  pub says : tellsWritten r ≡ writeNumber v before place
-  pub bytes : after ≡ bufferAfter v before place
+abbrev pub WritesNumber : (v : ℕ) (before : List ℕ) (place : ℕ) → NumberWritten → (after : List ℕ) → Type 0
+WritesNumber v before place r after =
+    Leaves (tellsWritten r) (writeNumber v before place) after (bufferAfter v before place)

@@ -1,47 +1,34 @@
--- What is promised of numbers beyond the contracts. Each statement is proved under its own name, in the file of proofs/ that stands beside its heading.
+-- What is promised of numbers beyond the contracts. A heading names the files of proofs/.
 use Prim.Native.Nat.{ℕ, _+_, _*_, _%_, _^_, _≤_, _<_}
 use mathlib.Core.List.{List, [], _∷_, _++_, map}
 use mathlib.Core.Logic.{_↔_, _⊎_}
 use mathlib.Core.Path.{_≡_}
 use lib.ListN.{length, drop}
 use Rattle.table.specs.Refusals.{cut, overlong, tooLarge, noRoom}
+use Rattle.table.specs.Results.{TellsOnce, Determines, DeterminesLent}
 use Rattle.number.specs.Reading.{value, high, mostLater, readNumber, tells}
 use Rattle.number.specs.Reading as reading
 use Rattle.number.specs.Writing.{wrote, numberBytes, writeNumber, bufferAfter, tellsWritten}
 use Rattle.number.specs.Writing as writing
 use Rattle.number.specs.Contracts.{ReadsNumber, CountsBytes, WritesNumber}
-use Rattle.number.specs.declared.NumberRead.{NumberRead}
-use Rattle.number.specs.declared.NumberWritten.{NumberWritten}
 
--- ---- each answer says one thing (proofs/Determined)
+-- ---- results are determined (proofs/Determined)
 
--- no two answers of the reader say the same
-abbrev pub ReadTellsOnce : Type 0
-ReadTellsOnce = (r q : NumberRead) → tells r ≡ tells q → r ≡ q
-
--- no two answers of the writer say the same
-abbrev pub WrittenTellsOnce : Type 0
-WrittenTellsOnce = (r q : NumberWritten) → tellsWritten r ≡ tellsWritten q → r ≡ q
-
--- two results that `read_number` may give coincide
-abbrev pub ReadDetermined : Type 0
-ReadDetermined = (s : List ℕ) (place : ℕ) (r q : NumberRead) → ReadsNumber s place r → ReadsNumber s place q → r ≡ q
-
--- two results that `number_length` may give coincide
-abbrev pub LengthDetermined : Type 0
-LengthDetermined = (v r q : ℕ) → CountsBytes v r → CountsBytes v q → r ≡ q
-
--- two results that `write_number` may give coincide, and so do the buffers that it may leave
-abbrev pub WriteDetermined : Type 0
-WriteDetermined =
-    (v : ℕ) (before : List ℕ) (place : ℕ) (r q : NumberWritten) (after later : List ℕ)
-    → WritesNumber v before place r after → WritesNumber v before place q later → (r ≡ q) × (after ≡ later)
+-- each result says one thing; two that a function may give coincide, as do the buffers that it may leave
+pub record Determined : Type 0 where
+  pub read-once : TellsOnce tells
+  pub written-once : TellsOnce tellsWritten
+  pub read-number : (s : List ℕ) (place : ℕ) → Determines (ReadsNumber s place)
+  pub number-length : (v : ℕ) → Determines (CountsBytes v)
+  pub write-number : (v : ℕ) (before : List ℕ) (place : ℕ) → DeterminesLent (WritesNumber v before place)
 
 -- ---- reading and writing (proofs/RoundTrip, proofs/Refusals)
 
 -- what is written at a place that has room is read back there, with the place after it
 abbrev pub ReadBack : Type 0
-ReadBack = (v : ℕ) (buffer : List ℕ) (place n : ℕ) → v < 2 ^ 64 → writeNumber v buffer place ≡ wrote n → readNumber (bufferAfter v buffer place) place ≡ value v (place + n)
+ReadBack =
+    (v : ℕ) (buffer : List ℕ) (place n : ℕ) → v < 2 ^ 64 → writeNumber v buffer place ≡ wrote n
+    → readNumber (bufferAfter v buffer place) place ≡ value v (place + n)
 
 -- a number read moves the place forward, by ten bytes at most, and stays within the slice
 pub record MovesOn (s : List ℕ) (place next : ℕ) : Type 0 where
@@ -114,21 +101,27 @@ pub record TenthTooLarge (bytes : List ℕ) : Type 0 where
   pub large : 1 < tenth
 
 abbrev pub TooLargeExactly : Type 0
-TooLargeExactly = (s : List ℕ) (place : ℕ) → readNumber s place ≡ reading.refused tooLarge ↔ TenthTooLarge (drop place s)
+TooLargeExactly =
+    (s : List ℕ) (place : ℕ) → readNumber s place ≡ reading.refused tooLarge ↔ TenthTooLarge (drop place s)
 
 -- the reader gives no other refusal
 abbrev pub RefusesNoOther : Type 0
-RefusesNoOther = (s : List ℕ) (place n : ℕ) → readNumber s place ≡ reading.refused n → (n ≡ cut) ⊎ ((n ≡ overlong) ⊎ (n ≡ tooLarge))
+RefusesNoOther =
+    (s : List ℕ) (place n : ℕ) → readNumber s place ≡ reading.refused n → (n ≡ cut) ⊎ ((n ≡ overlong) ⊎ (n ≡ tooLarge))
 
 -- 10: the bytes of the value do not fit between the place and the buffer's end
 abbrev pub NoRoomExactly : Type 0
-NoRoomExactly = (v : ℕ) (buffer : List ℕ) (place : ℕ) → writeNumber v buffer place ≡ writing.refused noRoom ↔ (length buffer < place + length (numberBytes v))
+NoRoomExactly =
+    (v : ℕ) (buffer : List ℕ) (place : ℕ)
+    → writeNumber v buffer place ≡ writing.refused noRoom ↔ (length buffer < place + length (numberBytes v))
 
 -- without room the buffer is as it was
 abbrev pub NoRoomKeeps : Type 0
-NoRoomKeeps = (v : ℕ) (buffer : List ℕ) (place : ℕ) → writeNumber v buffer place ≡ writing.refused noRoom → bufferAfter v buffer place ≡ buffer
+NoRoomKeeps =
+    (v : ℕ) (buffer : List ℕ) (place : ℕ) → writeNumber v buffer place ≡ writing.refused noRoom
+    → bufferAfter v buffer place ≡ buffer
 
--- ---- one form for each value (proofs/OneForm, which trace's own alone cites: padded numbers will remove both)
+-- ---- one form for each value (proofs/OneForm, cited only by the file of that name in `trace`)
 
 -- each is a byte
 abbrev pub Bytes : List ℕ → Type 0

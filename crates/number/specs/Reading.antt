@@ -48,7 +48,7 @@ groups (suc later) first place (b ∷ bs) =
 unfoldable pub readNumber : List ℕ → ℕ → Told
 readNumber s place = groups mostLater true place (drop place s)
 
--- what each answer says, as the paper numbers it
+-- what each result says, as the paper numbers it
 abbrev pub tells : NumberRead → Told
 tells (Value v next) = value v next
 tells Cut = refused cut

@@ -37,7 +37,7 @@ writeNumber v buffer place = pick (fits v buffer place) (wrote (length (numberBy
 abbrev pub bufferAfter : ℕ → List ℕ → ℕ → List ℕ
 bufferAfter v buffer place = pick (fits v buffer place) (sets buffer place (numberBytes v)) buffer
 
--- what each answer says, as the paper numbers it
+-- what each result says, as the paper numbers it
 abbrev pub tellsWritten : NumberWritten → ToldWritten
 tellsWritten (Length n) = wrote n
 tellsWritten NoRoom = refused noRoom

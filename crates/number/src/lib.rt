@@ -2,7 +2,7 @@
 // Reading takes the one shortest form alone; writing gives it.
 ghost use Rattle.number.specs.Contracts.{Fewer, EndsNumber, ReadsNumber, CountsBytes, WritesNumber};
 
-// A group's weight against the one before it; as a byte, the high bit, set where another follows.
+// Each group counts 128 times the one before; in a byte this is the high bit, set where another follows.
 const HIGH: u64 = 128;
 
 // Between its first group and a tenth a number has at most this many.
@@ -51,7 +51,7 @@ pub fn read_number(s: &[u8], place: usize) -> NumberRead
     if first < HIGH {
         return NumberRead::Value { value: first, next };
     }
-    // The bytes before a tenth that there are, so that one test a byte is enough.
+    // How many bytes stand before a tenth, so that one test a byte is enough.
     let mut left = fewer(s.len() - next, MOST_BETWEEN);
     let mut value = first - HIGH;
     let mut weight = HIGH;

@@ -1,14 +1,18 @@
--- The digits that `io::decimal` writes are the definition's: both take the last digit off, and end at one digit.
-use Prim.Native.Nat.{ℕ, zero, suc, _-_, _/_, _%_, _^_, _≤_, _<_}
+-- The digits that `io::decimal` writes are the definition's: both take the last digit off, and end at one digit. So each
+-- takes a power of ten, and a number of 64 bits has few.
+use Prim.Native.Nat.{ℕ, zero, suc, _*_, _/_, _%_, _^_, _≤_, _<_}
 use mathlib.Core.List.{List, [], _∷_, _++_}
 use mathlib.Core.Path.{_≡_, refl, sym, ap, ap₂, _∙_}
-use native.Mathlib.Nat.{pow-succ', one-le-pow, pow-le-pow-right}
+use native.Mathlib.Nat.{pow-succ', one-le-pow}
 use native.Mathlib.Numerals.{unary-clauses}
 use native.Mathlib.Omega.{arith}
 use borrow.Author.Tests.{lt-ltb, le-ltb}
-use Rattle.table.proofs.Laws.{by-order}
+use lib.Dec.{ltb}
+use lib.ListN.{length, length-append}
+use Rattle.table.proofs.Laws.{by-order, by-pick}
 use Rattle.io.specs.Digits.{glyph, digits, Fewest}
 use Rattle.output.specs.Decimal.{digit, digitsOf, decimal}
+use Rattle.output.specs.Writing.{more, line}
 
 glyph-digit : (d : ℕ) → d < 10 → glyph d ≡ digit d
 glyph-digit d h = rw (lt-ltb d 10 h)
@@ -56,9 +60,32 @@ same-decimal n (suc k) f =
     let t : Takes k n = record { under = f .1; full = λ h. simp unary-clauses at (f .2 (omega arith)) } in
     same-digits k n n (by-order 0 k (λ h. omega (arith, below-power k, t .full h)) (λ h. omega arith)) t
 
+-- ---- how many they are
+
+-- one digit for each power of ten that is taken
+digits-short : (k more n : ℕ) → n < 10 ^ suc k → length (digitsOf more n) ≤ suc k
+unfolding digitsOf
+digits-short zero more n h = rw (one-digit more n h) (omega arith)
+digits-short (suc k) zero n h = omega arith
+digits-short (suc k) (suc more) n h =
+    by-pick (λ (ds : List ℕ). length ds ≤ suc (suc k)) (ltb n 10)
+    (λ _. omega arith)
+    (λ _. rw length-append (omega (arith, digits-short k more (n / 10) (omega (arith, pow-succ' 10 (suc k))))))
+
 -- a number of 64 bits has twenty digits at most
-pub at-most-twenty : (n k : ℕ) → n < 2 ^ 64 → Fewest 10 1 n k → k ≤ 20
-at-most-twenty n k h f =
-    by-order 20 k
-    (λ l. absurd (omega (arith, f .2 (omega arith), pow-le-pow-right {n = 10} (omega arith) {i = 20} {j = k - 1} (omega arith))))
-    (λ l. l)
+decimal-short : (n : ℕ) → n < 2 ^ 64 → length (decimal n) ≤ 20
+unfolding decimal
+decimal-short n h = digits-short 19 n n (omega arith)
+
+-- all these are numbers of 64 bits
+abbrev pub Small : List ℕ → Type 0
+Small [] = Unit
+Small (v ∷ vs) = (v < 2 ^ 64) × Small vs
+
+pub more-short : (numbers : List ℕ) → Small numbers → length (more numbers) ≤ 21 * length numbers
+unfolding more
+more-short [] h = omega arith
+more-short (v ∷ vs) h = rw length-append (omega (arith, decimal-short v (h .0), more-short vs (h .1)))
+
+pub line-short : (first : ℕ) (others : List ℕ) → Small (first ∷ others) → length (line first others) ≤ 21 * suc (length others)
+line-short first others h = simp length-append (omega (arith, decimal-short first (h .0), more-short others (h .1)))

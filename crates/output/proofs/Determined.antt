@@ -5,42 +5,38 @@ use mathlib.Core.List.{List, [], _∷_}
 use mathlib.Core.Logic.{_⊎_, inl, inr}
 use mathlib.Core.Path.{_≡_, sym, _∙_}
 use lib.ListN.{length}
+use Rattle.table.specs.Results.{DeterminesLent}
 use Rattle.table.proofs.Laws.{by-test}
-use Rattle.output.specs.Writing.{newline, line, reached, gathered, lost, staysGathered}
-use Rattle.output.specs.Contracts.{PutsLine}
-use Rattle.output.specs.Laws.{AllDetermined, MoreDetermined, NumbersDetermined, SameUnlessLost, OutDetermined, DeterminesUnlessLost, EndDetermined, LineDetermined}
-
--- two that equal a third
-both : {A : Type 0} {a b c : A} → a ≡ c → b ≡ c → a ≡ b
-both p q = p ∙ sym q
-
-pub all-determined : AllDetermined
-all-determined bytes before n r q after later a b = (both (a .puts .there) (b .puts .there), both (a .puts .stored) (b .puts .stored))
-
-pub more-determined : MoreDetermined
-more-determined numbers before n r q after later a b = (both (a .there) (b .there), both (a .stored) (b .stored))
-
-pub numbers-determined : NumbersDetermined
-numbers-determined first others before n r q after later a b = (both (a .there) (b .there), both (a .stored) (b .stored))
+use Rattle.table.proofs.Results.{by-result-lent}
+use Rattle.output.specs.Writing.{newline, more, numbersText, line, reached, gathered, lost, staysGathered}
+use Rattle.output.specs.Contracts.{Puts, WritesOut, PutsLine}
+use Rattle.output.specs.Laws.{SameUnlessLost, DeterminesUnlessLost, Determined}
 
 after-writes : {r q : ℕ} → (r ≡ 0) ⊎ (r ≡ lost) → (q ≡ 0) ⊎ (q ≡ lost) → SameUnlessLost r q
-after-writes (inl e) (inl h) = inl (both e h)
+after-writes (inl e) (inl h) = inl (e ∙ sym h)
 after-writes (inl e) (inr h) = inr (inr h)
 after-writes (inr e) h = inr (inl e)
 
-pub out-determined : OutDetermined
-out-determined n least r q a b =
-    by-test (staysGathered n least) (λ t. inl (both (rw t at a) (rw t at b))) (λ f. after-writes (rw f at a) (rw f at b))
+out : (n least r q : ℕ) → WritesOut n least r → WritesOut n least q → SameUnlessLost r q
+out n least r q a b =
+    by-test (staysGathered n least) (λ t. inl ((rw t at a) ∙ sym (rw t at b))) (λ f. after-writes (rw f at a) (rw f at b))
 
--- whatever the bytes are that end a line
-ends-line : (bytes : List ℕ) → DeterminesUnlessLost (PutsLine bytes)
-ends-line bytes before n r q after later a b = (
-  out-determined (reached (length before) n (length bytes)) gathered r q (a .there) (b .there),
-  both (a .stored) (b .stored),
-)
+-- whatever the bytes are that are put, and that end a line
+puts : (bytes before : List ℕ) (n : ℕ) → DeterminesLent (Puts bytes before n)
+puts bytes before n = by-result-lent (λ r q e. e) (λ r after a. record { says = a .there; leaves = a .stored })
 
-pub end-determined : EndDetermined
-end-determined = ends-line (newline ∷ [])
+ends-line : (bytes before : List ℕ) (n : ℕ) → DeterminesUnlessLost (PutsLine bytes before n)
+ends-line bytes before n r q after later a b =
+    (out (reached (length before) n (length bytes)) gathered r q (a .there) (b .there), a .stored ∙ sym (b .stored))
 
-pub line-determined : LineDetermined
-line-determined first others = ends-line (line first others)
+pub determined : Determined
+determined =
+    record {
+      put-all = λ bytes before n. by-result-lent (λ r q e. e) (λ r after a. record { says = a .puts .there; leaves = a .puts .stored });
+      put-more = λ numbers. puts (more numbers);
+      put-bytes = λ bytes. puts (more bytes);
+      put-numbers = λ first others. puts (numbersText first others);
+      write-out = out;
+      end-line = ends-line (newline ∷ []);
+      put-line = λ first others. ends-line (line first others);
+    }

@@ -5,10 +5,10 @@ use mathlib.Core.Path.{_≡_, refl, sym, ap, ap₂, subst, _∙_}
 use native.Mathlib.Numerals.{add-one}
 use native.Mathlib.Omega.{arith}
 use lib.Dec.{ltb}
-use lib.ListN.{length, drop, getD, length-append, drop-of-length-le}
+use lib.ListN.{length, take, drop, getD, length-append, drop-of-length-le}
 use lib.Seq.{sets, set-out, length-sets, drop-cons}
 use Rattle.table.proofs.Laws.{by-test, by-order}
-use Rattle.table.proofs.Stores.{sets-on}
+use Rattle.table.proofs.Stores.{sets-on, stored-to}
 use Rattle.output.specs.Writing.{further, more, reached, gathered, lost}
 use Rattle.output.specs.Contracts.{Puts, PutsAll, WritesOut, PutsLine}
 use Rattle.output.specs.Laws.{PutsStayLost, LinesStayLost, OutStaysLost}
@@ -39,6 +39,12 @@ puts-then {xs} {ys} {before} {out} {after} {n} {m} {r} p q =
 
 pub puts-long : {bytes before after : List ℕ} {n r : ℕ} → Puts bytes before n r after → length after ≡ length before
 puts-long {bytes} {before} {n = n} p = ap length (p .stored) ∙ length-sets before n bytes
+
+-- what has room stands behind what stood before it
+pub puts-whole : {bytes before after : List ℕ} {n r : ℕ} → Puts bytes before n r after → n + length bytes ≤ length before → take r after ≡ take n before ++ bytes
+puts-whole {bytes} {before} {n = n} p h =
+    let all : reached (length before) n (length bytes) ≡ n + length bytes = omega arith in
+    rw (p .stored, p .there, all) (stored-to before bytes n h)
 
 -- the end of a line
 pub puts-line : {xs ys before out after : List ℕ} {n m r : ℕ} → Puts xs before n m out → PutsLine ys out m r after → PutsLine (xs ++ ys) before n r after

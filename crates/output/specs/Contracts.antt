@@ -1,4 +1,4 @@
--- What each function promises, cited by its `ensures` and, of the public ones, by the theorem that two results it allows coincide.
+-- What each function promises, cited by its `ensures` and, of the public ones, by `Determined` in Laws.
 use Prim.Native.Nat.{ℕ, _≤_}
 use mathlib.Core.List.{List, [], _∷_}
 use mathlib.Core.Logic.{_⊎_}

@@ -1,5 +1,5 @@
 // Lines of text, gathered in a buffer: decimal numbers, one blank between two. Each function writes at
-// n and answers where the next one writes; what has no room is left out.
+// n and gives the place where the next one writes; what has no room is left out.
 ghost use Prim.Native.Nat.{min};
 ghost use mathlib.Core.List.{[], _∷_};
 ghost use mathlib.Core.Path.{_≡_};
@@ -111,8 +111,8 @@ fn after_write(whole: bool) -> usize
     LOST
 }
 
-// What is gathered goes out once it is `least` or more; the answer is how much is gathered then, or
-// that it was lost. No contract can say what a call writes, so no branch passes the write by.
+// What is gathered goes out once it is `least` or more; it gives how much is gathered then, or
+// that it was lost. No contract can say what a call writes, so no branch skips the write.
 pub fn write_out(out: &[u8], n: usize, least: usize) -> usize
     ensures { λ r. ⌜ WritesOut n least r ⌝ }
 {

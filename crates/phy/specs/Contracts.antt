@@ -1,4 +1,4 @@
--- What each public function promises, cited by its `ensures` and by the theorem that two results it allows coincide.
+-- What each public function promises, cited by its `ensures` and by `Determined` in Laws.
 use mathlib.Core.Bool.{Bool}
 use mathlib.Core.Path.{_≡_}
 use Rattle.event.specs.declared.Event.{Event}

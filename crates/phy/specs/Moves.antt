@@ -9,17 +9,23 @@ use Rattle.event.specs.Names.{SMP}
 use Rattle.event.specs.Table.{openOf}
 use Rattle.event.specs.declared.Open.{Open}
 use Rattle.event.specs.declared.Event.{Event}
-use Rattle.phy.specs.Names.{L0, L1, L2, L3, L4, L5, L6, P1, P2, P3, P4, opened, retry, noDestination, pathwayBlocked, collided, badDestination, rateNotSupported, protocolNotSupported, stpBusy, wrongDestination, openBroken, portLayerRequest, terminated, connectionOpened, closedNormal, closedBreakRequested, closedBreakReceived, closedToIdle, closedReset, OPEN, CLOSE, BREAK, fullTimer}
-use Rattle.phy.specs.Shapes.{requesting, idle, selected, connected, freshPhy, withTimer, withSettings, reports, answers, quiet, refused}
+use Rattle.phy.specs.Names.{L0, L1, L2, L3, L4, L5, L6, P1, P2, P3, P4, answerOpened, answerRetry}
+use Rattle.phy.specs.Names.{answerNoDestination, answerPathwayBlocked, answerCollided, answerBadDestination}
+use Rattle.phy.specs.Names.{answerRate, answerProtocol, answerStpBusy, answerWrongDestination}
+use Rattle.phy.specs.Names.{answerBreakReceived, answerPortLayerRequest, answerTerminated, noticeOpened}
+use Rattle.phy.specs.Names.{noticeClosedNormal, noticeBreakRequested, noticeBreakReceived}
+use Rattle.phy.specs.Names.{noticeTransitionToIdle, noticeReset, sentOpen, sentClose, sentBreak, fullTimer}
+use Rattle.phy.specs.Shapes.{requesting, idle, selected, connected, freshPhy, withTimer, withSettings, reports}
+use Rattle.phy.specs.Shapes.{answers, quiet, refused}
 use Rattle.phy.specs.declared.Phy.{Phy}
 use Rattle.phy.specs.declared.Stepped.{Stepped}
 
 -- ---- entering L0: P2 answers 51, P4 its reason, P3 notices 6; all go to P1
 abbrev pub idleRows : Phy → (sent : ℕ) → List (Row Stepped)
 idleRows p sent =
-    (P2 ⇒ answers (idle (p .settings)) collided (p .request) 0 sent)
+    (P2 ⇒ answers (idle (p .settings)) answerCollided (p .request) 0 sent)
     ∷ (P4 ⇒ answers (idle (p .settings)) (p .reason) (p .request) 0 sent)
-    ∷ (P3 ⇒ reports (idle (p .settings)) closedToIdle sent)
+    ∷ (P3 ⇒ reports (idle (p .settings)) noticeTransitionToIdle sent)
     ∷ []
 
 unfoldable pub toIdle : Phy → (sent : ℕ) → Stepped
@@ -28,8 +34,8 @@ toIdle p sent = rows (p .port) (idleRows p sent) (reports (idle (p .settings)) 0
 -- ---- 1, Tx Open: P1 to P2; from L0 an OPEN is sent, with L2 or L6 the request waits
 abbrev pub txOpenRows : Phy → Open → List (Row Stepped)
 txOpenRows p o =
-    (L0 ⇒ reports (requesting (p .settings) L1 P2 fullTimer o 0) 0 OPEN)
-    ∷ (L2 ⇒ reports (selected (p .settings) P2 o (p .source) (p .inbound)) 0 0)
+    (L0 ⇒ reports (requesting (p .settings) L1 P2 fullTimer o 0) 0 sentOpen)
+    ∷ (L2 ⇒ reports (selected (p .settings) P2 o (p .inboundSource) (p .inboundProtocol)) 0 0)
     ∷ (L6 ⇒ reports (requesting (p .settings) L6 P2 0 o 0) 0 0)
     ∷ []
 
@@ -41,7 +47,8 @@ onTxOpen p e = pick (eqb (p .port) P1) (openByLink p (openOf e)) (refused p busy
 
 -- ---- 2, Cancel Open: with L1 a BREAK is sent; with L2 or L6 it is accepted and nothing changes
 abbrev pub cancelRows : Phy → List (Row Stepped)
-cancelRows p = (L1 ⇒ reports (requesting (p .settings) L5 P4 fullTimer (p .request) portLayerRequest) 0 BREAK) ∷ []
+cancelRows p =
+    (L1 ⇒ reports (requesting (p .settings) L5 P4 fullTimer (p .request) answerPortLayerRequest) 0 sentBreak) ∷ []
 
 unfoldable pub onCancelOpen : Phy → Stepped
 onCancelOpen p = pick (eqb (p .port) P2) (rows (p .link) (cancelRows p) (quiet p)) (refused p nothingPending)
@@ -50,17 +57,17 @@ onCancelOpen p = pick (eqb (p .port) P2) (rows (p .link) (cancelRows p) (quiet p
 unfoldable pub onCloseConnection : Phy → Stepped
 onCloseConnection p =
     pick (eqb (p .link) L3)
-    (pick (isOn (p .closed))
-    (reports (idle (p .settings)) closedNormal CLOSE)
-    (reports (connected (p .settings) L4 fullTimer (p .connection) off) 0 CLOSE))
+    (pick (isOn (p .farClosed))
+    (reports (idle (p .settings)) noticeClosedNormal sentClose)
+    (reports (connected (p .settings) L4 fullTimer (p .connectionProtocol) off) 0 sentClose))
     (refused p notConnected)
 
 -- ---- 4, SMP Transmit Break: an SMP connection is broken off
-unfoldable pub onSmpBreak : Phy → Stepped
-onSmpBreak p =
+unfoldable pub onSmpTransmitBreak : Phy → Stepped
+onSmpTransmitBreak p =
     pick (eqb (p .link) L3)
-    (pick (eqb (p .connection) SMP)
-    (reports (connected (p .settings) L5 fullTimer (p .connection) off) closedBreakRequested BREAK)
+    (pick (eqb (p .connectionProtocol) SMP)
+    (reports (connected (p .settings) L5 fullTimer (p .connectionProtocol) off) noticeBreakRequested sentBreak)
     (refused p wrongProtocol))
     (refused p notConnected)
 
@@ -80,7 +87,9 @@ onOpenReceived p e = rows (p .link) (openRows p e) (quiet p)
 
 -- ---- 8, OPEN_ACCEPT: our request is a connection
 abbrev pub openAcceptRows : Phy → List (Row Stepped)
-openAcceptRows p = (L1 ⇒ answers (connected (p .settings) L3 0 (p .request .protocol) off) opened (p .request) connectionOpened 0) ∷ []
+openAcceptRows p =
+    (L1 ⇒ answers (connected (p .settings) L3 0 (p .request .protocol) off) answerOpened (p .request) noticeOpened 0)
+    ∷ []
 
 unfoldable pub onOpenAccept : Phy → Stepped
 onOpenAccept p = rows (p .link) (openAcceptRows p) (quiet p)
@@ -88,14 +97,14 @@ onOpenAccept p = rows (p .link) (openAcceptRows p) (quiet p)
 -- ---- 9, OPEN_REJECT: the answer to each of its reasons
 abbrev pub rejectAnswers : List (Row ℕ)
 rejectAnswers =
-    (0 ⇒ retry)
-    ∷ (1 ⇒ noDestination)
-    ∷ (2 ⇒ pathwayBlocked)
-    ∷ (3 ⇒ badDestination)
-    ∷ (4 ⇒ rateNotSupported)
-    ∷ (5 ⇒ protocolNotSupported)
-    ∷ (6 ⇒ stpBusy)
-    ∷ (7 ⇒ wrongDestination)
+    (0 ⇒ answerRetry)
+    ∷ (1 ⇒ answerNoDestination)
+    ∷ (2 ⇒ answerPathwayBlocked)
+    ∷ (3 ⇒ answerBadDestination)
+    ∷ (4 ⇒ answerRate)
+    ∷ (5 ⇒ answerProtocol)
+    ∷ (6 ⇒ answerStpBusy)
+    ∷ (7 ⇒ answerWrongDestination)
     ∷ []
 
 unfoldable pub rejectAnswer : ℕ → ℕ
@@ -121,10 +130,10 @@ onAip p = rows (p .link) (aipRows p) (quiet p)
 -- ---- 11, BREAK: it is answered by a BREAK, or ends our own
 abbrev pub breakRows : Phy → List (Row Stepped)
 breakRows p =
-    (L1 ⇒ reports (requesting (p .settings) L6 P4 0 (p .request) openBroken) 0 BREAK)
-    ∷ (L2 ⇒ reports (requesting (p .settings) L6 (p .port) 0 (p .request) 0) 0 BREAK)
-    ∷ (L3 ⇒ reports (connected (p .settings) L6 0 (p .connection) off) closedBreakReceived BREAK)
-    ∷ (L4 ⇒ reports (connected (p .settings) L6 0 (p .connection) off) closedBreakReceived BREAK)
+    (L1 ⇒ reports (requesting (p .settings) L6 P4 0 (p .request) answerBreakReceived) 0 sentBreak)
+    ∷ (L2 ⇒ reports (requesting (p .settings) L6 (p .port) 0 (p .request) 0) 0 sentBreak)
+    ∷ (L3 ⇒ reports (connected (p .settings) L6 0 (p .connectionProtocol) off) noticeBreakReceived sentBreak)
+    ∷ (L4 ⇒ reports (connected (p .settings) L6 0 (p .connectionProtocol) off) noticeBreakReceived sentBreak)
     ∷ (L5 ⇒ toIdle p 0)
     ∷ []
 
@@ -134,8 +143,8 @@ onBreak p = rows (p .link) (breakRows p) (quiet p)
 -- ---- 12, CLOSE: the far end has closed, or both have
 abbrev pub closeRows : Phy → List (Row Stepped)
 closeRows p =
-    (L3 ⇒ quiet (connected (p .settings) L3 0 (p .connection) on))
-    ∷ (L4 ⇒ reports (idle (p .settings)) closedNormal 0)
+    (L3 ⇒ quiet (connected (p .settings) L3 0 (p .connectionProtocol) on))
+    ∷ (L4 ⇒ reports (idle (p .settings)) noticeClosedNormal 0)
     ∷ []
 
 unfoldable pub onClose : Phy → Stepped
@@ -146,9 +155,9 @@ onClose p = rows (p .link) (closeRows p) (quiet p)
 -- ---- 14 and 15, HARD_RESET and Phy Disabled: to fresh; P2 and P4 answer 80, P3 notices 7
 abbrev pub resetRows : Phy → List (Row Stepped)
 resetRows p =
-    (P2 ⇒ answers freshPhy terminated (p .request) 0 0)
-    ∷ (P4 ⇒ answers freshPhy terminated (p .request) 0 0)
-    ∷ (P3 ⇒ reports freshPhy closedReset 0)
+    (P2 ⇒ answers freshPhy answerTerminated (p .request) 0 0)
+    ∷ (P4 ⇒ answers freshPhy answerTerminated (p .request) 0 0)
+    ∷ (P3 ⇒ reports freshPhy noticeReset 0)
     ∷ []
 
 unfoldable pub onReset : Phy → Stepped

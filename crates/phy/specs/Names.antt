@@ -40,99 +40,99 @@ P4 = 4
 
 -- ---- answers to an Open: Opened
 
-abbrev pub opened : ℕ
-opened = 32
+abbrev pub answerOpened : ℕ
+answerOpened = 32
 
 -- ---- Retry Open
 
-abbrev pub retry : ℕ
-retry = 48
+abbrev pub answerRetry : ℕ
+answerRetry = 48
 
-abbrev pub noDestination : ℕ
-noDestination = 49
+abbrev pub answerNoDestination : ℕ
+answerNoDestination = 49
 
-abbrev pub pathwayBlocked : ℕ
-pathwayBlocked = 50
+abbrev pub answerPathwayBlocked : ℕ
+answerPathwayBlocked = 50
 
-abbrev pub collided : ℕ
-collided = 51
+abbrev pub answerCollided : ℕ
+answerCollided = 51
 
-abbrev pub openedByDestination : ℕ
-openedByDestination = 52
+abbrev pub answerOpenedByDestination : ℕ
+answerOpenedByDestination = 52
 
-abbrev pub openedByOther : ℕ
-openedByOther = 53
+abbrev pub answerOpenedByOther : ℕ
+answerOpenedByOther = 53
 
 -- ---- Unable To Connect
 
-abbrev pub badDestination : ℕ
-badDestination = 64
+abbrev pub answerBadDestination : ℕ
+answerBadDestination = 64
 
-abbrev pub rateNotSupported : ℕ
-rateNotSupported = 65
+abbrev pub answerRate : ℕ
+answerRate = 65
 
-abbrev pub protocolNotSupported : ℕ
-protocolNotSupported = 66
+abbrev pub answerProtocol : ℕ
+answerProtocol = 66
 
-abbrev pub stpBusy : ℕ
-stpBusy = 67
+abbrev pub answerStpBusy : ℕ
+answerStpBusy = 67
 
-abbrev pub wrongDestination : ℕ
-wrongDestination = 68
+abbrev pub answerWrongDestination : ℕ
+answerWrongDestination = 68
 
-abbrev pub openTimeout : ℕ
-openTimeout = 69
+abbrev pub answerOpenTimeout : ℕ
+answerOpenTimeout = 69
 
-abbrev pub openBroken : ℕ
-openBroken = 70
+abbrev pub answerBreakReceived : ℕ
+answerBreakReceived = 70
 
-abbrev pub portLayerRequest : ℕ
-portLayerRequest = 71
+abbrev pub answerPortLayerRequest : ℕ
+answerPortLayerRequest = 71
 
 -- ---- ours, at a reset
 
-abbrev pub terminated : ℕ
-terminated = 80
+abbrev pub answerTerminated : ℕ
+answerTerminated = 80
 
 -- ---- notices: a connection opened, and how one closed
 
-abbrev pub connectionOpened : ℕ
-connectionOpened = 1
+abbrev pub noticeOpened : ℕ
+noticeOpened = 1
 
-abbrev pub closedNormal : ℕ
-closedNormal = 2
+abbrev pub noticeClosedNormal : ℕ
+noticeClosedNormal = 2
 
-abbrev pub closedTimeout : ℕ
-closedTimeout = 3
+abbrev pub noticeCloseTimeout : ℕ
+noticeCloseTimeout = 3
 
-abbrev pub closedBreakRequested : ℕ
-closedBreakRequested = 4
+abbrev pub noticeBreakRequested : ℕ
+noticeBreakRequested = 4
 
-abbrev pub closedBreakReceived : ℕ
-closedBreakReceived = 5
+abbrev pub noticeBreakReceived : ℕ
+noticeBreakReceived = 5
 
-abbrev pub closedToIdle : ℕ
-closedToIdle = 6
+abbrev pub noticeTransitionToIdle : ℕ
+noticeTransitionToIdle = 6
 
-abbrev pub closedReset : ℕ
-closedReset = 7
+abbrev pub noticeReset : ℕ
+noticeReset = 7
 
 -- ---- primitives and frames sent
 
-abbrev pub OPEN : ℕ
-OPEN = 1
+abbrev pub sentOpen : ℕ
+sentOpen = 1
 
-abbrev pub OPEN-ACCEPT : ℕ
-OPEN-ACCEPT = 2
+abbrev pub sentOpenAccept : ℕ
+sentOpenAccept = 2
 
-abbrev pub OPEN-REJECT : ℕ
-OPEN-REJECT = 3
+abbrev pub sentOpenReject : ℕ
+sentOpenReject = 3
 
-abbrev pub CLOSE : ℕ
-CLOSE = 4
+abbrev pub sentClose : ℕ
+sentClose = 4
 
-abbrev pub BREAK : ℕ
-BREAK = 5
+abbrev pub sentBreak : ℕ
+sentBreak = 5
 
 -- ---- limits
 

@@ -11,50 +11,109 @@ use Rattle.phy.specs.declared.Stepped.{Stepped}
 
 -- no Open: every argument zero
 abbrev pub noOpen : Open
-noOpen = record { destination = 0; protocol = 0; rate = 0; tag = 0; blocked = 0; wait = 0 }
+noOpen = record { destination = 0; protocol = 0; rate = 0; tag = 0; blockedCount = 0; wait = 0 }
 
 -- a request, or none, with no connection and no OPEN from the far end
 abbrev pub requesting : (settings : Settings) (link port timer : ℕ) (request : Open) (reason : ℕ) → Phy
 requesting settings link port timer request reason =
-    record { link = link; port = port; timer = timer; request = request; reason = reason; source = 0; inbound = 0; connection = 0; closed = off; settings = settings }
+    record {
+      link = link;
+      port = port;
+      timer = timer;
+      request = request;
+      reason = reason;
+      inboundSource = 0;
+      inboundProtocol = 0;
+      connectionProtocol = 0;
+      farClosed = off;
+      settings = settings;
+    }
 
 -- neither request nor connection
 abbrev pub idle : Settings → Phy
 idle settings = requesting settings L0 P1 0 noOpen 0
 
 -- an OPEN from the far end, with a request that waits or none
-abbrev pub selected : (settings : Settings) (port : ℕ) (request : Open) (source inbound : ℕ) → Phy
-selected settings port request source inbound =
-    record { link = L2; port = port; timer = 0; request = request; reason = 0; source = source; inbound = inbound; connection = 0; closed = off; settings = settings }
+abbrev pub selected : (settings : Settings) (port : ℕ) (request : Open) (source protocol : ℕ) → Phy
+selected settings port request source protocol =
+    record {
+      link = L2;
+      port = port;
+      timer = 0;
+      request = request;
+      reason = 0;
+      inboundSource = source;
+      inboundProtocol = protocol;
+      connectionProtocol = 0;
+      farClosed = off;
+      settings = settings;
+    }
 
 -- a connection
-abbrev pub connected : (settings : Settings) (link timer connection closed : ℕ) → Phy
-connected settings link timer connection closed =
-    record { link = link; port = P3; timer = timer; request = noOpen; reason = 0; source = 0; inbound = 0; connection = connection; closed = closed; settings = settings }
+abbrev pub connected : (settings : Settings) (link timer protocol farClosed : ℕ) → Phy
+connected settings link timer protocol farClosed =
+    record {
+      link = link;
+      port = P3;
+      timer = timer;
+      request = noOpen;
+      reason = 0;
+      inboundSource = 0;
+      inboundProtocol = 0;
+      connectionProtocol = protocol;
+      farClosed = farClosed;
+      settings = settings;
+    }
 
 -- a fresh phy is idle and rejects opens
 abbrev pub freshPhy : Phy
 freshPhy = idle (record { accept = off })
 
--- the phy with another timer, request or settings
+-- the phy with this timer, request and settings, all else as it is
+abbrev pub changed : Phy → (timer : ℕ) (request : Open) (settings : Settings) → Phy
+changed p timer request settings =
+    record {
+      link = p .link;
+      port = p .port;
+      timer = timer;
+      request = request;
+      reason = p .reason;
+      inboundSource = p .inboundSource;
+      inboundProtocol = p .inboundProtocol;
+      connectionProtocol = p .connectionProtocol;
+      farClosed = p .farClosed;
+      settings = settings;
+    }
+
+-- with another timer alone
 abbrev pub withTimer : Phy → (timer : ℕ) → Phy
-withTimer p timer = record { link = p .link; port = p .port; timer = timer; request = p .request; reason = p .reason; source = p .source; inbound = p .inbound; connection = p .connection; closed = p .closed; settings = p .settings }
+withTimer p timer = changed p timer (p .request) (p .settings)
 
+-- another request
 abbrev pub withRequest : Phy → (request : Open) → Phy
-withRequest p request = record { link = p .link; port = p .port; timer = p .timer; request = request; reason = p .reason; source = p .source; inbound = p .inbound; connection = p .connection; closed = p .closed; settings = p .settings }
+withRequest p request = changed p (p .timer) request (p .settings)
 
+-- other settings
 abbrev pub withSettings : Phy → (settings : Settings) → Phy
-withSettings p settings = record { link = p .link; port = p .port; timer = p .timer; request = p .request; reason = p .reason; source = p .source; inbound = p .inbound; connection = p .connection; closed = p .closed; settings = settings }
+withSettings p settings = changed p (p .timer) (p .request) settings
 
 -- ---- reports: an answer with its Open, a notice, a primitive sent; each 0 where there is none
 
--- no answer
-abbrev pub reports : (next : Phy) (notice sent : ℕ) → Stepped
-reports next notice sent = record { next = next; answered = noOpen; answer = 0; notice = notice; sent = sent; refusal = 0 }
-
 -- an answer with the arguments of its Open
 abbrev pub answers : (next : Phy) (answer : ℕ) (request : Open) (notice sent : ℕ) → Stepped
-answers next answer request notice sent = record { next = next; answered = request; answer = answer; notice = notice; sent = sent; refusal = 0 }
+answers next answer request notice sent =
+    record {
+      next = next;
+      answered = request;
+      answer = answer;
+      notice = notice;
+      sent = sent;
+      refusal = 0;
+    }
+
+-- no answer
+abbrev pub reports : (next : Phy) (notice sent : ℕ) → Stepped
+reports next notice sent = answers next 0 noOpen notice sent
 
 -- nothing changes
 abbrev pub quiet : Phy → Stepped

@@ -5,9 +5,11 @@ use lib.Dec.{eqb, leb}
 use Rattle.table.specs.Choice.{split}
 use Rattle.table.specs.Flags.{off, isFlag}
 use Rattle.event.specs.Names.{STP, mostAddress}
-use Rattle.event.specs.Table.{openKnown}
+use Rattle.event.specs.Table.{openKnown, sameOpen}
 use Rattle.event.specs.declared.Open.{Open}
-use Rattle.phy.specs.Names.{L0, L1, L2, L3, L4, L5, L6, P1, P2, P3, P4, openTimeout, openBroken, portLayerRequest, fullTimer}
+use Rattle.phy.specs.Names.{L0, L1, L2, L3, L4, L5, L6, P1, P2, P3, P4, answerOpenTimeout, answerBreakReceived}
+use Rattle.phy.specs.Names.{answerPortLayerRequest, fullTimer}
+use Rattle.phy.specs.Shapes.{noOpen}
 use Rattle.phy.specs.declared.Settings.{Settings}
 use Rattle.phy.specs.declared.Phy.{Phy}
 
@@ -21,11 +23,12 @@ validPair link port =
 
 -- the timer is 1 to 1,000 in L1, L4 and L5, else 0
 abbrev pub validTimer : (link timer : ℕ) → Bool
-validTimer link timer = split (eqb link L1 || eqb link L4 || eqb link L5) (leb 1 timer && leb timer fullTimer) (eqb timer 0)
+validTimer link timer =
+    split (eqb link L1 || eqb link L4 || eqb link L5) (leb 1 timer && leb timer fullTimer) (eqb timer 0)
 
 -- no argument is kept
 abbrev pub isNoOpen : Open → Bool
-isNoOpen o = eqb (o .destination) 0 && eqb (o .protocol) 0 && eqb (o .rate) 0 && eqb (o .tag) 0 && eqb (o .blocked) 0 && eqb (o .wait) 0
+isNoOpen o = sameOpen o noOpen
 
 -- the request is in use in P2 and P4
 unfoldable pub validRequest : (port : ℕ) (request : Open) → Bool
@@ -35,20 +38,22 @@ validRequest port request = split (eqb port P2 || eqb port P4) (openKnown reques
 abbrev pub validReason : (link port reason : ℕ) → Bool
 validReason link port reason =
     split (eqb port P4)
-    ((eqb link L6 && eqb reason openBroken) || (eqb link L5 && (eqb reason openTimeout || eqb reason portLayerRequest)))
+    ((eqb link L6 && eqb reason answerBreakReceived)
+    || (eqb link L5 && (eqb reason answerOpenTimeout || eqb reason answerPortLayerRequest)))
     (eqb reason 0)
 
 -- the inbound source, a 64-bit number, and protocol are in use in L2
-unfoldable pub validInbound : (link source inbound : ℕ) → Bool
-validInbound link source inbound = split (eqb link L2) (leb source mostAddress && leb inbound STP) (eqb source 0 && eqb inbound 0)
+unfoldable pub validInbound : (link source protocol : ℕ) → Bool
+validInbound link source protocol =
+    split (eqb link L2) (leb source mostAddress && leb protocol STP) (eqb source 0 && eqb protocol 0)
 
 -- the connection's protocol is in use in P3
-abbrev pub validConnection : (port connection : ℕ) → Bool
-validConnection port connection = split (eqb port P3) (leb connection STP) (eqb connection 0)
+abbrev pub validConnection : (port protocol : ℕ) → Bool
+validConnection port protocol = split (eqb port P3) (leb protocol STP) (eqb protocol 0)
 
 -- that the far end has closed is a flag, in use in L3
-abbrev pub validClosed : (link closed : ℕ) → Bool
-validClosed link closed = split (eqb link L3) (isFlag closed) (eqb closed off)
+abbrev pub validFarClosed : (link farClosed : ℕ) → Bool
+validFarClosed link farClosed = split (eqb link L3) (isFlag farClosed) (eqb farClosed off)
 
 -- whether inbound opens are accepted is a flag, in every state
 abbrev pub validSettings : Settings → Bool
@@ -58,8 +63,9 @@ validSettings settings = isFlag (settings .accept)
 abbrev pub validIn : (port : ℕ) → Phy → Bool
 validIn port p =
     validPair (p .link) port && validTimer (p .link) (p .timer) && validRequest port (p .request)
-    && validReason (p .link) port (p .reason) && validInbound (p .link) (p .source) (p .inbound)
-    && validConnection port (p .connection) && validClosed (p .link) (p .closed) && validSettings (p .settings)
+    && validReason (p .link) port (p .reason) && validInbound (p .link) (p .inboundSource) (p .inboundProtocol)
+    && validConnection port (p .connectionProtocol) && validFarClosed (p .link) (p .farClosed)
+    && validSettings (p .settings)
 
 -- every rule holds
 unfoldable pub validOf : Phy → Bool

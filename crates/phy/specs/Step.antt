@@ -3,11 +3,14 @@ use mathlib.Core.List.{List, [], _∷_}
 use Rattle.table.specs.Choice.{pick, Row, _⇒_, rows}
 use Rattle.table.specs.Flags.{on, off}
 use Rattle.table.specs.Refusals.{badState, badEvent}
-use Rattle.event.specs.Names.{txOpen, cancelOpen, closeConnection, smpTransmitBreak, acceptOpens, rejectOpens, openReceived, openAcceptReceived, openRejectReceived, aipReceived, breakReceived, closeReceived, tick, hardReset, phyDisabled}
+use Rattle.event.specs.Names.{txOpen, cancelOpen, closeConnection, smpTransmitBreak, acceptOpens, rejectOpens}
+use Rattle.event.specs.Names.{openReceived, openAcceptReceived, openRejectReceived, aipReceived, breakReceived}
+use Rattle.event.specs.Names.{closeReceived, tick, hardReset, phyDisabled}
 use Rattle.event.specs.Table.{knownOf}
 use Rattle.phy.specs.Shapes.{quiet, refused}
 use Rattle.phy.specs.State.{validOf}
-use Rattle.phy.specs.Moves.{onTxOpen, onCancelOpen, onCloseConnection, onSmpBreak, onAccept, onOpenReceived, onOpenAccept, onOpenReject, onAip, onBreak, onClose, onReset}
+use Rattle.phy.specs.Moves.{onTxOpen, onCancelOpen, onCloseConnection, onSmpTransmitBreak, onAccept}
+use Rattle.phy.specs.Moves.{onOpenReceived, onOpenAccept, onOpenReject, onAip, onBreak, onClose, onReset}
 use Rattle.phy.specs.Ticks.{onTick}
 use Rattle.event.specs.declared.Event.{Event}
 use Rattle.phy.specs.declared.Phy.{Phy}
@@ -19,7 +22,7 @@ moveRows p e =
     (txOpen ⇒ onTxOpen p e)
     ∷ (cancelOpen ⇒ onCancelOpen p)
     ∷ (closeConnection ⇒ onCloseConnection p)
-    ∷ (smpTransmitBreak ⇒ onSmpBreak p)
+    ∷ (smpTransmitBreak ⇒ onSmpTransmitBreak p)
     ∷ (acceptOpens ⇒ onAccept p on)
     ∷ (rejectOpens ⇒ onAccept p off)
     ∷ (openReceived ⇒ onOpenReceived p e)

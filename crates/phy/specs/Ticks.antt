@@ -6,7 +6,9 @@ use Rattle.table.specs.Choice.{pick, Row, _⇒_, rows}
 use Rattle.table.specs.Flags.{off, isOn}
 use Rattle.event.specs.Names.{mostWait}
 use Rattle.event.specs.declared.Open.{Open}
-use Rattle.phy.specs.Names.{L1, L2, L3, L4, L5, L6, P2, P4, openedByDestination, openedByOther, openTimeout, connectionOpened, closedTimeout, OPEN-ACCEPT, OPEN-REJECT, BREAK, fullTimer}
+use Rattle.phy.specs.Names.{L1, L2, L3, L4, L5, L6, P2, P4, answerOpenedByDestination, answerOpenedByOther}
+use Rattle.phy.specs.Names.{answerOpenTimeout, noticeOpened, noticeCloseTimeout, sentOpenAccept, sentOpenReject}
+use Rattle.phy.specs.Names.{sentBreak, fullTimer}
 use Rattle.phy.specs.Shapes.{requesting, connected, withTimer, withRequest, reports, answers, quiet}
 use Rattle.phy.specs.Moves.{toIdle}
 use Rattle.phy.specs.declared.Phy.{Phy}
@@ -15,7 +17,14 @@ use Rattle.phy.specs.declared.Stepped.{Stepped}
 -- the wait rises by one, up to 65,535
 unfoldable pub longer : Open → Open
 longer o =
-    record { destination = o .destination; protocol = o .protocol; rate = o .rate; tag = o .tag; blocked = o .blocked; wait = pick (leb mostWait (o .wait)) (o .wait) (o .wait + 1) }
+    record {
+      destination = o .destination;
+      protocol = o .protocol;
+      rate = o .rate;
+      tag = o .tag;
+      blockedCount = o .blockedCount;
+      wait = pick (leb mostWait (o .wait)) (o .wait) (o .wait + 1);
+    }
 
 -- first of all, in P2, the request has waited longer
 unfoldable pub aged : Phy → Phy
@@ -27,32 +36,37 @@ counts p over = pick (leb (p .timer) 1) over (quiet (withTimer p (p .timer - 1))
 
 -- L1: the Open has failed, and its answer waits for the link to be idle
 unfoldable pub tickRequesting : Phy → Stepped
-tickRequesting p = counts p (reports (requesting (p .settings) L5 P4 fullTimer (p .request) openTimeout) 0 BREAK)
+tickRequesting p =
+    counts p (reports (requesting (p .settings) L5 P4 fullTimer (p .request) answerOpenTimeout) 0 sentBreak)
 
 -- L4: no CLOSE came
 unfoldable pub tickClosing : Phy → Stepped
-tickClosing p = counts p (reports (connected (p .settings) L5 fullTimer (p .connection) off) closedTimeout BREAK)
+tickClosing p =
+    counts p (reports (connected (p .settings) L5 fullTimer (p .connectionProtocol) off) noticeCloseTimeout sentBreak)
 
--- L5: nothing came that ends it
+-- L5: neither BREAK nor OPEN_REJECT came in time
 unfoldable pub tickBreaking : Phy → Stepped
 tickBreaking p = counts p (toIdle p 0)
 
 -- how a request that waits is answered, by who opened the connection
 unfoldable pub openedBy : (source destination : ℕ) → ℕ
-openedBy source destination = pick (eqb source destination) openedByDestination openedByOther
+openedBy source destination = pick (eqb source destination) answerOpenedByDestination answerOpenedByOther
 
 -- L2, opens accepted: the far end's OPEN is a connection, and a request that waits is answered
 abbrev pub acceptRows : Phy → List (Row Stepped)
 acceptRows p =
-    (P2 ⇒ answers (connected (p .settings) L3 0 (p .inbound) off) (openedBy (p .source) (p .request .destination)) (p .request) connectionOpened OPEN-ACCEPT)
+    (P2 ⇒ answers (connected (p .settings) L3 0 (p .inboundProtocol) off)
+    (openedBy (p .inboundSource) (p .request .destination)) (p .request) noticeOpened sentOpenAccept)
     ∷ []
 
 unfoldable pub accepted : Phy → Stepped
-accepted p = rows (p .port) (acceptRows p) (reports (connected (p .settings) L3 0 (p .inbound) off) connectionOpened OPEN-ACCEPT)
+accepted p =
+    rows (p .port) (acceptRows p)
+    (reports (connected (p .settings) L3 0 (p .inboundProtocol) off) noticeOpened sentOpenAccept)
 
 -- L2: by the flag as it is now
 unfoldable pub tickSelected : Phy → Stepped
-tickSelected p = pick (isOn (p .settings .accept)) (accepted p) (toIdle p OPEN-REJECT)
+tickSelected p = pick (isOn (p .settings .accept)) (accepted p) (toIdle p sentOpenReject)
 
 -- by the link, in the order of the paper
 abbrev pub tickRows : Phy → List (Row Stepped)

@@ -32,9 +32,8 @@ pub struct Settings {
     pub accept: u64,
 }
 
-// Numbers of any size may stand here: `valid` tells which records are states. `inbound` and `connection`
-// are the protocols of the far end's OPEN and of the connection; `closed` is a flag, that the far end has
-// closed.
+// Numbers of any size may stand here: `valid` tells which records are states. Who opens us, and by which
+// protocol, is kept in L2; `farClosed` is a flag, that the far end has closed.
 #[repr(C)]
 pub struct Phy {
     pub link: u64,
@@ -42,10 +41,10 @@ pub struct Phy {
     pub timer: u64,
     pub request: Open,
     pub reason: u64,
-    pub source: u64,
-    pub inbound: u64,
-    pub connection: u64,
-    pub closed: u64,
+    pub inboundSource: u64,
+    pub inboundProtocol: u64,
+    pub connectionProtocol: u64,
+    pub farClosed: u64,
     pub settings: Settings,
 }
 
@@ -71,7 +70,7 @@ pub fn moved(phy: Phy, event: Event) -> Stepped
         TX_OPEN => moves::on_tx_open(phy, event),
         CANCEL_OPEN => moves::on_cancel_open(phy),
         CLOSE_CONNECTION => moves::on_close_connection(phy),
-        SMP_TRANSMIT_BREAK => moves::on_smp_break(phy),
+        SMP_TRANSMIT_BREAK => moves::on_smp_transmit_break(phy),
         ACCEPT_OPENS => moves::on_accept(phy, table::ON),
         REJECT_OPENS => moves::on_accept(phy, table::OFF),
         OPEN_RECEIVED => moves::on_open_received(phy, event),

@@ -1,55 +1,12 @@
 // What each event but a tick does, a function for each, in the paper's order. What no arm lists changes
 // nothing.
 ghost use mathlib.Core.Path.{_≡_};
-ghost use Rattle.phy.specs.Moves.{toIdle, openByLink, onTxOpen, onCancelOpen, onCloseConnection, onSmpBreak, onAccept, onOpenReceived, onOpenAccept, rejectAnswer, onOpenReject, onAip, onBreak, onClose, onReset};
+ghost use Rattle.phy.specs.Moves.{toIdle, openByLink, onTxOpen, onCancelOpen, onCloseConnection, onSmpTransmitBreak, onAccept, onOpenReceived, onOpenAccept, rejectAnswer, onOpenReject, onAip, onBreak, onClose, onReset};
 use crate::Phy;
 use crate::Settings;
 use crate::Stepped;
-use crate::names::BAD_DESTINATION;
-use crate::names::BREAK;
-use crate::names::CLOSE;
-use crate::names::CLOSED_BREAK_RECEIVED;
-use crate::names::CLOSED_BREAK_REQUESTED;
-use crate::names::CLOSED_NORMAL;
-use crate::names::CLOSED_RESET;
-use crate::names::CLOSED_TO_IDLE;
-use crate::names::COLLIDED;
-use crate::names::CONNECTION_OPENED;
-use crate::names::FULL_TIMER;
-use crate::names::L0;
-use crate::names::L1;
-use crate::names::L2;
-use crate::names::L3;
-use crate::names::L4;
-use crate::names::L5;
-use crate::names::L6;
-use crate::names::NO_DESTINATION;
-use crate::names::OPEN;
-use crate::names::OPEN_BROKEN;
-use crate::names::OPENED;
-use crate::names::P1;
-use crate::names::P2;
-use crate::names::P3;
-use crate::names::P4;
-use crate::names::PATHWAY_BLOCKED;
-use crate::names::PORT_LAYER_REQUEST;
-use crate::names::PROTOCOL_NOT_SUPPORTED;
-use crate::names::RATE_NOT_SUPPORTED;
-use crate::names::RETRY;
-use crate::names::STP_BUSY;
-use crate::names::TERMINATED;
-use crate::names::WRONG_DESTINATION;
-use crate::shapes::FRESH;
-use crate::shapes::answers;
-use crate::shapes::connected;
-use crate::shapes::idle;
-use crate::shapes::quiet;
-use crate::shapes::refused;
-use crate::shapes::reports;
-use crate::shapes::requesting;
-use crate::shapes::selected;
-use crate::shapes::with_settings;
-use crate::shapes::with_timer;
+use crate::names::*;
+use crate::shapes::*;
 use event::Event;
 use event::Open;
 use event::SMP;
@@ -58,16 +15,16 @@ use table::OFF;
 use table::ON;
 
 // Entering L0: a request that waits is answered, with the reason where one was kept; a connection is over.
-pub fn to_idle(p: Phy, sent: u64) -> Stepped
+pub(crate) fn to_idle(p: Phy, sent: u64) -> Stepped
     ensures { λ r. ⌜ r ≡ toIdle p sent ⌝ }
 {
     let port = p.port;
     let settings = p.settings;
     let request = p.request;
     match port {
-        P2 => answers(idle(settings), COLLIDED, request, 0, sent),
+        P2 => answers(idle(settings), ANSWER_COLLIDED, request, 0, sent),
         P4 => answers(idle(settings), p.reason, request, 0, sent),
-        P3 => reports(idle(settings), CLOSED_TO_IDLE, sent),
+        P3 => reports(idle(settings), NOTICE_TRANSITION_TO_IDLE, sent),
         _ => reports(idle(settings), 0, sent),
     }
 }
@@ -78,14 +35,18 @@ fn open_by_link(p: Phy, o: Open) -> Stepped
     let link = p.link;
     let settings = p.settings;
     match link {
-        L0 => reports(requesting(settings, L1, P2, FULL_TIMER, o, 0), 0, OPEN),
-        L2 => reports(selected(settings, P2, o, p.source, p.inbound), 0, 0),
+        L0 => reports(requesting(settings, L1, P2, FULL_TIMER, o, 0), 0, SENT_OPEN),
+        L2 => reports(
+            selected(settings, P2, o, p.inboundSource, p.inboundProtocol),
+            0,
+            0,
+        ),
         L6 => reports(requesting(settings, L6, P2, 0, o, 0), 0, 0),
         _ => quiet(p),
     }
 }
 
-pub fn on_tx_open(p: Phy, e: Event) -> Stepped
+pub(crate) fn on_tx_open(p: Phy, e: Event) -> Stepped
     ensures { λ r. ⌜ r ≡ onTxOpen p e ⌝ }
 {
     if p.port == P1 {
@@ -95,7 +56,7 @@ pub fn on_tx_open(p: Phy, e: Event) -> Stepped
 }
 
 // With L2 or L6 no OPEN of ours is out that could be taken back: the cancel is accepted and forgotten.
-pub fn on_cancel_open(p: Phy) -> Stepped
+pub(crate) fn on_cancel_open(p: Phy) -> Stepped
     ensures { λ r. ⌜ r ≡ onCancelOpen p ⌝ }
 {
     let link = p.link;
@@ -104,9 +65,16 @@ pub fn on_cancel_open(p: Phy) -> Stepped
     if p.port == P2 {
         return match link {
             L1 => reports(
-                requesting(settings, L5, P4, FULL_TIMER, request, PORT_LAYER_REQUEST),
+                requesting(
+                    settings,
+                    L5,
+                    P4,
+                    FULL_TIMER,
+                    request,
+                    ANSWER_PORT_LAYER_REQUEST,
+                ),
                 0,
-                BREAK,
+                SENT_BREAK,
             ),
             _ => quiet(p),
         };
@@ -114,34 +82,34 @@ pub fn on_cancel_open(p: Phy) -> Stepped
     refused(p, table::NOTHING_PENDING)
 }
 
-pub fn on_close_connection(p: Phy) -> Stepped
+pub(crate) fn on_close_connection(p: Phy) -> Stepped
     ensures { λ r. ⌜ r ≡ onCloseConnection p ⌝ }
 {
     let settings = p.settings;
     if p.link == L3 {
-        if p.closed == ON {
-            return reports(idle(settings), CLOSED_NORMAL, CLOSE);
+        if p.farClosed == ON {
+            return reports(idle(settings), NOTICE_CLOSED_NORMAL, SENT_CLOSE);
         }
         return reports(
-            connected(settings, L4, FULL_TIMER, p.connection, OFF),
+            connected(settings, L4, FULL_TIMER, p.connectionProtocol, OFF),
             0,
-            CLOSE,
+            SENT_CLOSE,
         );
     }
     refused(p, table::NOT_CONNECTED)
 }
 
-pub fn on_smp_break(p: Phy) -> Stepped
-    ensures { λ r. ⌜ r ≡ onSmpBreak p ⌝ }
+pub(crate) fn on_smp_transmit_break(p: Phy) -> Stepped
+    ensures { λ r. ⌜ r ≡ onSmpTransmitBreak p ⌝ }
 {
     let settings = p.settings;
-    let connection = p.connection;
+    let protocol = p.connectionProtocol;
     if p.link == L3 {
-        if connection == SMP {
+        if protocol == SMP {
             return reports(
-                connected(settings, L5, FULL_TIMER, connection, OFF),
-                CLOSED_BREAK_REQUESTED,
-                BREAK,
+                connected(settings, L5, FULL_TIMER, protocol, OFF),
+                NOTICE_BREAK_REQUESTED,
+                SENT_BREAK,
             );
         }
         return refused(p, table::WRONG_PROTOCOL);
@@ -149,14 +117,14 @@ pub fn on_smp_break(p: Phy) -> Stepped
     refused(p, table::NOT_CONNECTED)
 }
 
-pub fn on_accept(p: Phy, accept: u64) -> Stepped
+pub(crate) fn on_accept(p: Phy, accept: u64) -> Stepped
     ensures { λ r. ⌜ r ≡ onAccept p accept ⌝ }
 {
     quiet(with_settings(p, Settings { accept }))
 }
 
 // An OPEN that is reported in L1 outranks ours: the chip has arbitrated, so there is nothing to compare.
-pub fn on_open_received(p: Phy, e: Event) -> Stepped
+pub(crate) fn on_open_received(p: Phy, e: Event) -> Stepped
     ensures { λ r. ⌜ r ≡ onOpenReceived p e ⌝ }
 {
     let link = p.link;
@@ -169,7 +137,7 @@ pub fn on_open_received(p: Phy, e: Event) -> Stepped
     }
 }
 
-pub fn on_open_accept(p: Phy) -> Stepped
+pub(crate) fn on_open_accept(p: Phy) -> Stepped
     ensures { λ r. ⌜ r ≡ onOpenAccept p ⌝ }
 {
     let link = p.link;
@@ -178,9 +146,9 @@ pub fn on_open_accept(p: Phy) -> Stepped
     match link {
         L1 => answers(
             connected(settings, L3, 0, request.protocol, OFF),
-            OPENED,
+            ANSWER_OPENED,
             request,
-            CONNECTION_OPENED,
+            NOTICE_OPENED,
             0,
         ),
         _ => quiet(p),
@@ -191,20 +159,20 @@ fn reject_answer(reason: u64) -> u64
     ensures { λ r. ⌜ r ≡ rejectAnswer reason ⌝ }
 {
     match reason {
-        0 => RETRY,
-        1 => NO_DESTINATION,
-        2 => PATHWAY_BLOCKED,
-        3 => BAD_DESTINATION,
-        4 => RATE_NOT_SUPPORTED,
-        5 => PROTOCOL_NOT_SUPPORTED,
-        6 => STP_BUSY,
-        7 => WRONG_DESTINATION,
+        0 => ANSWER_RETRY,
+        1 => ANSWER_NO_DESTINATION,
+        2 => ANSWER_PATHWAY_BLOCKED,
+        3 => ANSWER_BAD_DESTINATION,
+        4 => ANSWER_RATE,
+        5 => ANSWER_PROTOCOL,
+        6 => ANSWER_STP_BUSY,
+        7 => ANSWER_WRONG_DESTINATION,
         _ => 0,
     }
 }
 
 // In L5 the request is given up already, and the reason is not looked at.
-pub fn on_open_reject(p: Phy, e: Event) -> Stepped
+pub(crate) fn on_open_reject(p: Phy, e: Event) -> Stepped
     ensures { λ r. ⌜ r ≡ onOpenReject p e ⌝ }
 {
     let link = p.link;
@@ -218,7 +186,7 @@ pub fn on_open_reject(p: Phy, e: Event) -> Stepped
 }
 
 // In L5 an AIP does nothing: the request is given up already.
-pub fn on_aip(p: Phy) -> Stepped
+pub(crate) fn on_aip(p: Phy) -> Stepped
     ensures { λ r. ⌜ r ≡ onAip p ⌝ }
 {
     let link = p.link;
@@ -228,7 +196,7 @@ pub fn on_aip(p: Phy) -> Stepped
     }
 }
 
-pub fn on_break(p: Phy) -> Stepped
+pub(crate) fn on_break(p: Phy) -> Stepped
     ensures { λ r. ⌜ r ≡ onBreak p ⌝ }
 {
     let link = p.link;
@@ -236,48 +204,52 @@ pub fn on_break(p: Phy) -> Stepped
     let request = p.request;
     match link {
         L1 => reports(
-            requesting(settings, L6, P4, 0, request, OPEN_BROKEN),
+            requesting(settings, L6, P4, 0, request, ANSWER_BREAK_RECEIVED),
             0,
-            BREAK,
+            SENT_BREAK,
         ),
-        L2 => reports(requesting(settings, L6, p.port, 0, request, 0), 0, BREAK),
+        L2 => reports(
+            requesting(settings, L6, p.port, 0, request, 0),
+            0,
+            SENT_BREAK,
+        ),
         L3 => reports(
-            connected(settings, L6, 0, p.connection, OFF),
-            CLOSED_BREAK_RECEIVED,
-            BREAK,
+            connected(settings, L6, 0, p.connectionProtocol, OFF),
+            NOTICE_BREAK_RECEIVED,
+            SENT_BREAK,
         ),
         L4 => reports(
-            connected(settings, L6, 0, p.connection, OFF),
-            CLOSED_BREAK_RECEIVED,
-            BREAK,
+            connected(settings, L6, 0, p.connectionProtocol, OFF),
+            NOTICE_BREAK_RECEIVED,
+            SENT_BREAK,
         ),
         L5 => to_idle(p, 0),
         _ => quiet(p),
     }
 }
 
-pub fn on_close(p: Phy) -> Stepped
+pub(crate) fn on_close(p: Phy) -> Stepped
     ensures { λ r. ⌜ r ≡ onClose p ⌝ }
 {
     let link = p.link;
     let settings = p.settings;
     match link {
-        L3 => quiet(connected(settings, L3, 0, p.connection, ON)),
-        L4 => reports(idle(settings), CLOSED_NORMAL, 0),
+        L3 => quiet(connected(settings, L3, 0, p.connectionProtocol, ON)),
+        L4 => reports(idle(settings), NOTICE_CLOSED_NORMAL, 0),
         _ => quiet(p),
     }
 }
 
 // A reset sends nothing and clears the accept flag.
-pub fn on_reset(p: Phy) -> Stepped
+pub(crate) fn on_reset(p: Phy) -> Stepped
     ensures { λ r. ⌜ r ≡ onReset p ⌝ }
 {
     let port = p.port;
     let request = p.request;
     match port {
-        P2 => answers(FRESH, TERMINATED, request, 0, 0),
-        P4 => answers(FRESH, TERMINATED, request, 0, 0),
-        P3 => reports(FRESH, CLOSED_RESET, 0),
+        P2 => answers(FRESH, ANSWER_TERMINATED, request, 0, 0),
+        P4 => answers(FRESH, ANSWER_TERMINATED, request, 0, 0),
+        P3 => reports(FRESH, NOTICE_RESET, 0),
         _ => quiet(FRESH),
     }
 }

@@ -25,65 +25,65 @@ pub const P3: u64 = 3;
 pub const P4: u64 = 4;
 
 // Answers to an Open.
-pub const OPENED: u64 = 32;
+pub const ANSWER_OPENED: u64 = 32;
 
-pub const RETRY: u64 = 48;
+pub const ANSWER_RETRY: u64 = 48;
 
-pub const NO_DESTINATION: u64 = 49;
+pub const ANSWER_NO_DESTINATION: u64 = 49;
 
-pub const PATHWAY_BLOCKED: u64 = 50;
+pub const ANSWER_PATHWAY_BLOCKED: u64 = 50;
 
-pub const COLLIDED: u64 = 51;
+pub const ANSWER_COLLIDED: u64 = 51;
 
-pub const OPENED_BY_DESTINATION: u64 = 52;
+pub const ANSWER_OPENED_BY_DESTINATION: u64 = 52;
 
-pub const OPENED_BY_OTHER: u64 = 53;
+pub const ANSWER_OPENED_BY_OTHER: u64 = 53;
 
-pub const BAD_DESTINATION: u64 = 64;
+pub const ANSWER_BAD_DESTINATION: u64 = 64;
 
-pub const RATE_NOT_SUPPORTED: u64 = 65;
+pub const ANSWER_RATE: u64 = 65;
 
-pub const PROTOCOL_NOT_SUPPORTED: u64 = 66;
+pub const ANSWER_PROTOCOL: u64 = 66;
 
-pub const STP_BUSY: u64 = 67;
+pub const ANSWER_STP_BUSY: u64 = 67;
 
-pub const WRONG_DESTINATION: u64 = 68;
+pub const ANSWER_WRONG_DESTINATION: u64 = 68;
 
 // Answers that are kept as a reason until the link is idle.
-pub const OPEN_TIMEOUT: u64 = 69;
+pub const ANSWER_OPEN_TIMEOUT: u64 = 69;
 
-pub const OPEN_BROKEN: u64 = 70;
+pub const ANSWER_BREAK_RECEIVED: u64 = 70;
 
-pub const PORT_LAYER_REQUEST: u64 = 71;
+pub const ANSWER_PORT_LAYER_REQUEST: u64 = 71;
 
 // Ours, at a reset.
-pub const TERMINATED: u64 = 80;
+pub const ANSWER_TERMINATED: u64 = 80;
 
 // Notices: a connection opened, and how one closed.
-pub const CONNECTION_OPENED: u64 = 1;
+pub const NOTICE_OPENED: u64 = 1;
 
-pub const CLOSED_NORMAL: u64 = 2;
+pub const NOTICE_CLOSED_NORMAL: u64 = 2;
 
-pub const CLOSED_TIMEOUT: u64 = 3;
+pub const NOTICE_CLOSE_TIMEOUT: u64 = 3;
 
-pub const CLOSED_BREAK_REQUESTED: u64 = 4;
+pub const NOTICE_BREAK_REQUESTED: u64 = 4;
 
-pub const CLOSED_BREAK_RECEIVED: u64 = 5;
+pub const NOTICE_BREAK_RECEIVED: u64 = 5;
 
-pub const CLOSED_TO_IDLE: u64 = 6;
+pub const NOTICE_TRANSITION_TO_IDLE: u64 = 6;
 
-pub const CLOSED_RESET: u64 = 7;
+pub const NOTICE_RESET: u64 = 7;
 
 // Primitives and frames sent.
-pub const OPEN: u64 = 1;
+pub const SENT_OPEN: u64 = 1;
 
-pub const OPEN_ACCEPT: u64 = 2;
+pub const SENT_OPEN_ACCEPT: u64 = 2;
 
-pub const OPEN_REJECT: u64 = 3;
+pub const SENT_OPEN_REJECT: u64 = 3;
 
-pub const CLOSE: u64 = 4;
+pub const SENT_CLOSE: u64 = 4;
 
-pub const BREAK: u64 = 5;
+pub const SENT_BREAK: u64 = 5;
 
 // Limits.
 pub const FULL_TIMER: u64 = 1000;

@@ -6,10 +6,7 @@ ghost use Rattle.phy.specs.Contracts.{StartsFresh};
 use crate::Phy;
 use crate::Settings;
 use crate::Stepped;
-use crate::names::L0;
-use crate::names::L2;
-use crate::names::P1;
-use crate::names::P3;
+use crate::names::*;
 use event::Open;
 use table::OFF;
 
@@ -18,12 +15,12 @@ const NO_OPEN: Open = Open {
     protocol: 0,
     rate: 0,
     tag: 0,
-    blocked: 0,
+    blockedCount: 0,
     wait: 0,
 };
 
 // A request, or none, with no connection and no OPEN from the far end.
-pub fn requesting(
+pub(crate) fn requesting(
     settings: Settings,
     link: u64,
     port: u64,
@@ -43,7 +40,7 @@ pub fn requesting(
     next
 }
 
-pub fn idle(settings: Settings) -> Phy
+pub(crate) fn idle(settings: Settings) -> Phy
     ensures { λ r. ⌜ r ≡ Shapes·idle settings ⌝ }
 {
     let mut next = FRESH;
@@ -52,29 +49,41 @@ pub fn idle(settings: Settings) -> Phy
 }
 
 // An OPEN from the far end, with a request that waits or none.
-pub fn selected(settings: Settings, port: u64, request: Open, source: u64, inbound: u64) -> Phy
-    ensures { λ r. ⌜ r ≡ Shapes·selected settings port request source inbound ⌝ }
+pub(crate) fn selected(
+    settings: Settings,
+    port: u64,
+    request: Open,
+    source: u64,
+    protocol: u64,
+) -> Phy
+    ensures { λ r. ⌜ r ≡ Shapes·selected settings port request source protocol ⌝ }
 {
     let mut next = FRESH;
     next.settings = settings;
     next.link = L2;
     next.port = port;
     next.request = request;
-    next.source = source;
-    next.inbound = inbound;
+    next.inboundSource = source;
+    next.inboundProtocol = protocol;
     next
 }
 
-pub fn connected(settings: Settings, link: u64, timer: u64, connection: u64, closed: u64) -> Phy
-    ensures { λ r. ⌜ r ≡ Shapes·connected settings link timer connection closed ⌝ }
+pub(crate) fn connected(
+    settings: Settings,
+    link: u64,
+    timer: u64,
+    protocol: u64,
+    farClosed: u64,
+) -> Phy
+    ensures { λ r. ⌜ r ≡ Shapes·connected settings link timer protocol farClosed ⌝ }
 {
     let mut next = FRESH;
     next.settings = settings;
     next.link = link;
     next.port = P3;
     next.timer = timer;
-    next.connection = connection;
-    next.closed = closed;
+    next.connectionProtocol = protocol;
+    next.farClosed = farClosed;
     next
 }
 
@@ -84,10 +93,10 @@ pub const FRESH: Phy = Phy {
     timer: 0,
     request: NO_OPEN,
     reason: 0,
-    source: 0,
-    inbound: 0,
-    connection: 0,
-    closed: OFF,
+    inboundSource: 0,
+    inboundProtocol: 0,
+    connectionProtocol: 0,
+    farClosed: OFF,
     settings: Settings { accept: OFF },
 };
 
@@ -97,7 +106,7 @@ pub fn fresh() -> Phy
     FRESH
 }
 
-pub fn with_timer(p: Phy, timer: u64) -> Phy
+pub(crate) fn with_timer(p: Phy, timer: u64) -> Phy
     ensures { λ r. ⌜ r ≡ withTimer p timer ⌝ }
 {
     let mut next = p;
@@ -105,7 +114,7 @@ pub fn with_timer(p: Phy, timer: u64) -> Phy
     next
 }
 
-pub fn with_request(p: Phy, request: Open) -> Phy
+pub(crate) fn with_request(p: Phy, request: Open) -> Phy
     ensures { λ r. ⌜ r ≡ withRequest p request ⌝ }
 {
     let mut next = p;
@@ -113,7 +122,7 @@ pub fn with_request(p: Phy, request: Open) -> Phy
     next
 }
 
-pub fn with_settings(p: Phy, settings: Settings) -> Phy
+pub(crate) fn with_settings(p: Phy, settings: Settings) -> Phy
     ensures { λ r. ⌜ r ≡ withSettings p settings ⌝ }
 {
     let mut next = p;
@@ -121,7 +130,7 @@ pub fn with_settings(p: Phy, settings: Settings) -> Phy
     next
 }
 
-pub fn reports(next: Phy, notice: u64, sent: u64) -> Stepped
+pub(crate) fn reports(next: Phy, notice: u64, sent: u64) -> Stepped
     ensures { λ r. ⌜ r ≡ Shapes·reports next notice sent ⌝ }
 {
     Stepped {
@@ -135,7 +144,7 @@ pub fn reports(next: Phy, notice: u64, sent: u64) -> Stepped
 }
 
 // With the arguments of the Open that is answered.
-pub fn answers(next: Phy, answer: u64, request: Open, notice: u64, sent: u64) -> Stepped
+pub(crate) fn answers(next: Phy, answer: u64, request: Open, notice: u64, sent: u64) -> Stepped
     ensures { λ r. ⌜ r ≡ Shapes·answers next answer request notice sent ⌝ }
 {
     Stepped {
@@ -148,13 +157,13 @@ pub fn answers(next: Phy, answer: u64, request: Open, notice: u64, sent: u64) ->
     }
 }
 
-pub fn quiet(p: Phy) -> Stepped
+pub(crate) fn quiet(p: Phy) -> Stepped
     ensures { λ r. ⌜ r ≡ Shapes·quiet p ⌝ }
 {
     reports(p, 0, 0)
 }
 
-pub fn refused(p: Phy, refusal: u64) -> Stepped
+pub(crate) fn refused(p: Phy, refusal: u64) -> Stepped
     ensures { λ r. ⌜ r ≡ Shapes·refused p refusal ⌝ }
 {
     Stepped {

@@ -7,21 +7,7 @@ ghost use Rattle.phy.specs.State.{isNoOpen, validSettings, validIn};
 ghost use Rattle.phy.specs.Contracts.{TellsValid};
 use crate::Phy;
 use crate::Settings;
-use crate::names::FULL_TIMER;
-use crate::names::L0;
-use crate::names::L1;
-use crate::names::L2;
-use crate::names::L3;
-use crate::names::L4;
-use crate::names::L5;
-use crate::names::L6;
-use crate::names::OPEN_BROKEN;
-use crate::names::OPEN_TIMEOUT;
-use crate::names::P1;
-use crate::names::P2;
-use crate::names::P3;
-use crate::names::P4;
-use crate::names::PORT_LAYER_REQUEST;
+use crate::names::*;
 use event::Open;
 use event::STP;
 use event::open_known;
@@ -36,7 +22,7 @@ fn is_no_open(o: Open) -> bool
         & (o.protocol == 0)
         & (o.rate == 0)
         & (o.tag == 0)
-        & (o.blocked == 0)
+        & (o.blockedCount == 0)
         & (o.wait == 0)
 }
 
@@ -49,9 +35,9 @@ fn runs(timer: u64) -> bool
 
 // Neither a source nor an inbound protocol is kept.
 fn nobody(p: Phy) -> bool
-    ensures { λ r. ⌜ r ≡ (eqb (p .source) 0 && eqb (p .inbound) 0) ⌝ }
+    ensures { λ r. ⌜ r ≡ (eqb (p .inboundSource) 0 && eqb (p .inboundProtocol) 0) ⌝ }
 {
-    (p.source == 0) & (p.inbound == 0)
+    (p.inboundSource == 0) & (p.inboundProtocol == 0)
 }
 
 // Each setting is a flag.
@@ -70,11 +56,11 @@ fn valid_idle(p: Phy) -> bool
     let request = p.request;
     let set = valid_settings(p.settings);
     let unused = (p.timer == 0) & is_no_open(request) & (p.reason == 0);
-    let unlinked = p.connection == 0;
-    let unclosed = p.closed == OFF;
+    let unlinked = p.connectionProtocol == 0;
+    let unclosed = p.farClosed == OFF;
     match link {
         L0 => unused & nobody(p) & unlinked & unclosed & set,
-        L2 => unused & (p.inbound <= STP) & unlinked & unclosed & set,
+        L2 => unused & (p.inboundProtocol <= STP) & unlinked & unclosed & set,
         L6 => unused & nobody(p) & unlinked & unclosed & set,
         _ => false,
     }
@@ -89,11 +75,17 @@ fn valid_requesting(p: Phy) -> bool
     let set = valid_settings(p.settings);
     let asked = open_known(request);
     let no_reason = p.reason == 0;
-    let unlinked = p.connection == 0;
-    let unclosed = p.closed == OFF;
+    let unlinked = p.connectionProtocol == 0;
+    let unclosed = p.farClosed == OFF;
     match link {
         L1 => runs(timer) & asked & no_reason & nobody(p) & unlinked & unclosed & set,
-        L2 => (timer == 0) & asked & no_reason & (p.inbound <= STP) & unlinked & unclosed & set,
+        L2 => (timer == 0)
+            & asked
+            & no_reason
+            & (p.inboundProtocol <= STP)
+            & unlinked
+            & unclosed
+            & set,
         L6 => (timer == 0) & asked & no_reason & nobody(p) & unlinked & unclosed & set,
         _ => false,
     }
@@ -108,10 +100,10 @@ fn valid_connected(p: Phy) -> bool
     let set = valid_settings(p.settings);
     let unused = is_no_open(request);
     let no_reason = p.reason == 0;
-    let linked = p.connection <= STP;
-    let unclosed = p.closed == OFF;
+    let linked = p.connectionProtocol <= STP;
+    let unclosed = p.farClosed == OFF;
     match link {
-        L3 => (timer == 0) & unused & no_reason & nobody(p) & linked & (p.closed <= ON) & set,
+        L3 => (timer == 0) & unused & no_reason & nobody(p) & linked & (p.farClosed <= ON) & set,
         L4 => runs(timer) & unused & no_reason & nobody(p) & linked & unclosed & set,
         L5 => runs(timer) & unused & no_reason & nobody(p) & linked & unclosed & set,
         L6 => (timer == 0) & unused & no_reason & nobody(p) & linked & unclosed & set,
@@ -128,10 +120,10 @@ fn valid_closing(p: Phy) -> bool
     let reason = p.reason;
     let set = valid_settings(p.settings);
     let asked = open_known(request);
-    let given_up = (reason == OPEN_TIMEOUT) | (reason == PORT_LAYER_REQUEST);
-    let broken = reason == OPEN_BROKEN;
-    let unlinked = p.connection == 0;
-    let unclosed = p.closed == OFF;
+    let given_up = (reason == ANSWER_OPEN_TIMEOUT) | (reason == ANSWER_PORT_LAYER_REQUEST);
+    let broken = reason == ANSWER_BREAK_RECEIVED;
+    let unlinked = p.connectionProtocol == 0;
+    let unclosed = p.farClosed == OFF;
     match link {
         L5 => runs(timer) & asked & given_up & nobody(p) & unlinked & unclosed & set,
         L6 => (timer == 0) & asked & broken & nobody(p) & unlinked & unclosed & set,

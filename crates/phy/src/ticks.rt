@@ -6,30 +6,8 @@ ghost use Rattle.phy.specs.Ticks.{longer as Ticks·longer, tickRequestin
 use crate::Phy;
 use crate::Stepped;
 use crate::moves::to_idle;
-use crate::names::BREAK;
-use crate::names::CLOSED_TIMEOUT;
-use crate::names::CONNECTION_OPENED;
-use crate::names::FULL_TIMER;
-use crate::names::L1;
-use crate::names::L2;
-use crate::names::L3;
-use crate::names::L4;
-use crate::names::L5;
-use crate::names::L6;
-use crate::names::OPEN_ACCEPT;
-use crate::names::OPEN_REJECT;
-use crate::names::OPEN_TIMEOUT;
-use crate::names::OPENED_BY_DESTINATION;
-use crate::names::OPENED_BY_OTHER;
-use crate::names::P2;
-use crate::names::P4;
-use crate::shapes::answers;
-use crate::shapes::connected;
-use crate::shapes::quiet;
-use crate::shapes::reports;
-use crate::shapes::requesting;
-use crate::shapes::with_request;
-use crate::shapes::with_timer;
+use crate::names::*;
+use crate::shapes::*;
 use event::MOST_WAIT;
 use event::Open;
 use table::OFF;
@@ -58,9 +36,9 @@ fn opened_by(source: u64, destination: u64) -> u64
     ensures { λ r. ⌜ r ≡ openedBy source destination ⌝ }
 {
     if source == destination {
-        return OPENED_BY_DESTINATION;
+        return ANSWER_OPENED_BY_DESTINATION;
     }
-    OPENED_BY_OTHER
+    ANSWER_OPENED_BY_OTHER
 }
 
 fn tick_requesting(p: Phy) -> Stepped
@@ -70,9 +48,9 @@ fn tick_requesting(p: Phy) -> Stepped
     let request = p.request;
     if p.timer <= 1 {
         return reports(
-            requesting(settings, L5, P4, FULL_TIMER, request, OPEN_TIMEOUT),
+            requesting(settings, L5, P4, FULL_TIMER, request, ANSWER_OPEN_TIMEOUT),
             0,
-            BREAK,
+            SENT_BREAK,
         );
     }
     counted(p)
@@ -84,9 +62,9 @@ fn tick_closing(p: Phy) -> Stepped
     let settings = p.settings;
     if p.timer <= 1 {
         return reports(
-            connected(settings, L5, FULL_TIMER, p.connection, OFF),
-            CLOSED_TIMEOUT,
-            BREAK,
+            connected(settings, L5, FULL_TIMER, p.connectionProtocol, OFF),
+            NOTICE_CLOSE_TIMEOUT,
+            SENT_BREAK,
         );
     }
     counted(p)
@@ -110,16 +88,16 @@ fn accepted(p: Phy) -> Stepped
     let request = p.request;
     match port {
         P2 => answers(
-            connected(settings, L3, 0, p.inbound, OFF),
-            opened_by(p.source, request.destination),
+            connected(settings, L3, 0, p.inboundProtocol, OFF),
+            opened_by(p.inboundSource, request.destination),
             request,
-            CONNECTION_OPENED,
-            OPEN_ACCEPT,
+            NOTICE_OPENED,
+            SENT_OPEN_ACCEPT,
         ),
         _ => reports(
-            connected(settings, L3, 0, p.inbound, OFF),
-            CONNECTION_OPENED,
-            OPEN_ACCEPT,
+            connected(settings, L3, 0, p.inboundProtocol, OFF),
+            NOTICE_OPENED,
+            SENT_OPEN_ACCEPT,
         ),
     }
 }
@@ -132,7 +110,7 @@ fn tick_selected(p: Phy) -> Stepped
     if settings.accept == ON {
         return accepted(p);
     }
-    to_idle(p, OPEN_REJECT)
+    to_idle(p, SENT_OPEN_REJECT)
 }
 
 fn on_tick_aged(p: Phy) -> Stepped
@@ -151,7 +129,7 @@ fn on_tick_aged(p: Phy) -> Stepped
 
 // Before all else a tick lets a request in P2 wait longer. A phy with no such request goes on in a branch
 // of its own, so that a tick in L0 does nothing to a wait.
-pub fn on_tick(p: Phy) -> Stepped
+pub(crate) fn on_tick(p: Phy) -> Stepped
     ensures { λ r. ⌜ r ≡ onTick p ⌝ }
 {
     if p.port == P2 {

@@ -1,6 +1,6 @@
 -- The one-step law for each event: a line for each of the twelve shapes, in the order P1, P2, P3, P4.
 use Prim.Native.Nat.{ℕ, _-_, _≤_}
-use mathlib.Core.Bool.{Bool, true, false, _&&_, _||_, false≢true}
+use mathlib.Core.Bool.{true, false, _&&_, _||_, false≢true}
 use mathlib.Core.Path.{_≡_, refl}
 use native.Mathlib.Omega.{arith}
 use borrow.Author.Tests.{leb-true}
@@ -10,10 +10,10 @@ use Rattle.table.proofs.Laws.{by-test, by-pick, each, parts}
 use Rattle.event.specs.Names.{STP, SMP, txOpen, tick, phyDisabled, mostAddress, mostReject}
 use Rattle.event.specs.Table.{argumentRange, argumentsKnown, codeKnown, knownOf, openOf, openKnown}
 use Rattle.event.specs.declared.Event.{Event}
-use Rattle.phy.specs.Names.{fullTimer, openTimeout, openBroken, portLayerRequest}
+use Rattle.phy.specs.Names.{fullTimer, answerOpenTimeout, answerBreakReceived, answerPortLayerRequest}
 use Rattle.phy.specs.Shapes.{withTimer, withRequest}
 use Rattle.phy.specs.State.{isNoOpen, validRequest, validOf}
-use Rattle.phy.specs.Moves.{toIdle, openByLink, onTxOpen, onCancelOpen, onCloseConnection, onSmpBreak, onAccept, onOpenReceived, onOpenAccept, rejectAnswer, onOpenReject, onAip, onBreak, onClose, onReset}
+use Rattle.phy.specs.Moves.{toIdle, openByLink, onTxOpen, onCancelOpen, onCloseConnection, onSmpTransmitBreak, onAccept, onOpenReceived, onOpenAccept, rejectAnswer, onOpenReject, onAip, onBreak, onClose, onReset}
 use Rattle.phy.specs.Ticks.{longer, aged, tickRequesting, tickClosing, tickBreaking, openedBy, accepted, tickSelected, onTickAged, onTick}
 use Rattle.phy.specs.Step.{moveOf}
 use Rattle.phy.specs.declared.Settings.{Settings}
@@ -22,8 +22,8 @@ use Rattle.phy_laws.specs.Waiting.{waits, isAnswer}
 use Rattle.phy_laws.proofs.Counting.{heard, left}
 use Rattle.phy_laws.proofs.Tests.{either, at-number, in-range, in-use}
 use Rattle.phy_laws.proofs.Shapes.{Fields, phyOf, Facts, by-shape}
-use Rattle.phy_laws.proofs.OneStep.{setsFlag, Stepping, valid-of, settings-valid, still, open-known, protocol-known, longer-known, timed, at-least-one, timed-down}
-use Rattle.phy_laws.proofs.InUse.{asked, runs, inbounds, sources, linked, no-request}
+use Rattle.phy_laws.proofs.OneStep.{setsFlag, Stepping, valid-of, settings-valid, still, in-ranges, open-known, protocol-known, longer-known, timed, at-least-one, timed-down}
+use Rattle.phy_laws.proofs.InUse.{asked, runs, inbounds, linked, no-request}
 use Rattle.phy_laws.proofs.Reached.{idle-valid, requesting-valid, waiting-valid, breaking-valid, broken-valid, giving-up-valid, selected-valid, selected-waiting-valid, connected-valid, closing-valid, cutting-valid, cut-valid, counted-valid}
 
 -- an event of a code
@@ -33,28 +33,14 @@ event code a b c d g h = record { code = code; first = a; second = b; third = c;
 -- ---- what a known event says of its arguments
 
 source-known : (a b c d g h : ℕ) → knownOf (event 7 a b c d g h) ≡ true → (leb a mostAddress ≡ true) × (leb b STP ≡ true)
-unfolding knownOf argumentsKnown argumentRange
+unfolding knownOf argumentRange
 source-known a b c d g h k =
-    let none : ℕ → Bool = λ n. leb 0 n && leb n 0 in
-    let both-fit : Bool = (leb 0 a && leb a mostAddress) && (leb 0 b && leb b STP) in
-    let u = parts (both-fit && none c && none d && none g) (none h) k in
-    let v = parts (both-fit && none c && none d) (none g) (u .0) in
-    let w = parts (both-fit && none c) (none d) (v .0) in
-    let x = parts both-fit (none c) (w .0) in
-    let y = parts (leb 0 a && leb a mostAddress) (leb 0 b && leb b STP) (x .0) in
-    (parts (leb 0 a) (leb a mostAddress) (y .0) .1, parts (leb 0 b) (leb b STP) (y .1) .1)
+    let q = in-ranges 7 a b c d g h k in
+    (parts (leb 0 a) (leb a mostAddress) (q 0) .1, parts (leb 0 b) (leb b STP) (q 1) .1)
 
 reason-known : (a b c d g h : ℕ) → knownOf (event 9 a b c d g h) ≡ true → a ≤ mostReject
-unfolding knownOf argumentsKnown argumentRange
-reason-known a b c d g h k =
-    let none : ℕ → Bool = λ n. leb 0 n && leb n 0 in
-    let one : Bool = leb 0 a && leb a mostReject in
-    let u = parts (one && none b && none c && none d && none g) (none h) k in
-    let v = parts (one && none b && none c && none d) (none g) (u .0) in
-    let w = parts (one && none b && none c) (none d) (v .0) in
-    let x = parts (one && none b) (none c) (w .0) in
-    let y = parts one (none b) (x .0) in
-    leb-true a mostReject (parts (leb 0 a) (leb a mostReject) (y .0) .1)
+unfolding knownOf argumentRange
+reason-known a b c d g h k = leb-true a mostReject (parts (leb 0 a) (leb a mostReject) (in-ranges 9 a b c d g h k 0) .1)
 
 -- ---- 1, Tx Open: in P1 it is taken, in any other port state refused
 on-tx-open : (a b c d g h : ℕ) → knownOf (event 1 a b c d g h) ≡ true → (p : Phy) → validOf p ≡ true → Stepping p (event 1 a b c d g h) (onTxOpen p (event 1 a b c d g h))
@@ -65,7 +51,7 @@ on-tx-open a b c d g h k =
     let q = still e 3 refl refl (omega arith) in
     by-shape (λ p. Stepping p e (onTxOpen p e))
     (λ f v. record { valid = requesting-valid (f .settings) (v .settings) fullTimer (openOf e) refl o; tally = record { silent = refl; none = refl; opens = refl; request = refl; soon = omega arith }; flag = refl; reports = refl })
-    (λ f v. record { valid = selected-waiting-valid (f .settings) (v .settings) (openOf e) (f .source) (f .inbound) o (sources v) (inbounds v); tally = record { silent = refl; none = refl; opens = refl; request = refl; soon = omega arith }; flag = refl; reports = refl })
+    (λ f v. record { valid = selected-waiting-valid (f .settings) (v .settings) (openOf e) (f .inboundSource) (f .inboundProtocol) o (inbounds v .0) (inbounds v .1); tally = record { silent = refl; none = refl; opens = refl; request = refl; soon = omega arith }; flag = refl; reports = refl })
     (λ f v. record { valid = waiting-valid (f .settings) (v .settings) (openOf e) o; tally = record { silent = refl; none = refl; opens = refl; request = refl; soon = omega arith }; flag = refl; reports = refl })
     (q 1 2 refl) (q 2 2 refl) (q 6 2 refl) (q 3 3 refl) (q 4 3 refl) (q 5 3 refl) (q 6 3 refl) (q 5 4 refl) (q 6 4 refl)
 
@@ -78,7 +64,7 @@ on-cancel-open a b c d g h =
     let n = still e 4 refl refl (omega arith) in
     by-shape (λ p. Stepping p e (onCancelOpen p))
     (n 0 1 refl) (n 2 1 refl) (n 6 1 refl)
-    (λ f v. record { valid = giving-up-valid (f .settings) (v .settings) (f .request) portLayerRequest (asked refl v) refl; tally = record { silent = refl; none = refl; opens = refl; request = refl; falls = omega arith }; flag = refl; reports = refl })
+    (λ f v. record { valid = giving-up-valid (f .settings) (v .settings) (f .request) answerPortLayerRequest (asked refl v) refl; tally = record { silent = refl; none = refl; opens = refl; request = refl; falls = omega arith }; flag = refl; reports = refl })
     (q 2 2 refl) (q 6 2 refl) (n 3 3 refl) (n 4 3 refl) (n 5 3 refl) (n 6 3 refl) (n 5 4 refl) (n 6 4 refl)
 
 -- ---- 3, Close Connection
@@ -89,21 +75,21 @@ on-close-connection a b c d g h =
     let n = still e 5 refl refl (omega arith) in
     by-shape (λ p. Stepping p e (onCloseConnection p))
     (n 0 1 refl) (n 2 1 refl) (n 6 1 refl) (n 1 2 refl) (n 2 2 refl) (n 6 2 refl)
-    (λ f v. by-pick (Stepping (phyOf 3 3 f) e) (isOn (f .closed))
+    (λ f v. by-pick (Stepping (phyOf 3 3 f) e) (isOn (f .farClosed))
     (λ t. record { valid = idle-valid (f .settings) (v .settings); tally = record { silent = refl; none = refl; opens = refl }; flag = refl; reports = refl })
-    (λ t. record { valid = closing-valid (f .settings) (v .settings) (f .connection) (linked v); tally = record { silent = refl; none = refl; opens = refl }; flag = refl; reports = refl }))
+    (λ t. record { valid = closing-valid (f .settings) (v .settings) (f .connectionProtocol) (linked v); tally = record { silent = refl; none = refl; opens = refl }; flag = refl; reports = refl }))
     (n 4 3 refl) (n 5 3 refl) (n 6 3 refl) (n 5 4 refl) (n 6 4 refl)
 
 -- ---- 4, SMP Transmit Break
-on-smp-break : (a b c d g h : ℕ) (p : Phy) → validOf p ≡ true → Stepping p (event 4 a b c d g h) (onSmpBreak p)
-unfolding onSmpBreak
-on-smp-break a b c d g h =
+on-smp-transmit-break : (a b c d g h : ℕ) (p : Phy) → validOf p ≡ true → Stepping p (event 4 a b c d g h) (onSmpTransmitBreak p)
+unfolding onSmpTransmitBreak
+on-smp-transmit-break a b c d g h =
     let e = event 4 a b c d g h in
     let n = still e 5 refl refl (omega arith) in
-    by-shape (λ p. Stepping p e (onSmpBreak p))
+    by-shape (λ p. Stepping p e (onSmpTransmitBreak p))
     (n 0 1 refl) (n 2 1 refl) (n 6 1 refl) (n 1 2 refl) (n 2 2 refl) (n 6 2 refl)
-    (λ f v. by-pick (Stepping (phyOf 3 3 f) e) (eqb (f .connection) SMP)
-    (λ t. record { valid = cutting-valid (f .settings) (v .settings) (f .connection) (linked v); tally = record { silent = refl; none = refl; opens = refl }; flag = refl; reports = refl })
+    (λ f v. by-pick (Stepping (phyOf 3 3 f) e) (eqb (f .connectionProtocol) SMP)
+    (λ t. record { valid = cutting-valid (f .settings) (v .settings) (f .connectionProtocol) (linked v); tally = record { silent = refl; none = refl; opens = refl }; flag = refl; reports = refl })
     (λ t. still e 6 refl refl (omega arith) 3 3 refl f v))
     (n 4 3 refl) (n 5 3 refl) (n 6 3 refl) (n 5 4 refl) (n 6 4 refl)
 
@@ -146,20 +132,20 @@ on-accept code a b c d g h flag good other opens sets p v =
     }
 
 -- ---- the kept reason is one of the answers
-timeout-or-request : (reason : ℕ) → eqb reason openTimeout || eqb reason portLayerRequest ≡ true → isAnswer reason ≡ true
+timeout-or-request : (reason : ℕ) → eqb reason answerOpenTimeout || eqb reason answerPortLayerRequest ≡ true → isAnswer reason ≡ true
 timeout-or-request reason e =
-    either (eqb reason openTimeout) (eqb reason portLayerRequest) e
-    (λ t. at-number (λ n. isAnswer n ≡ true) reason openTimeout t refl)
-    (λ t. at-number (λ n. isAnswer n ≡ true) reason portLayerRequest t refl)
+    either (eqb reason answerOpenTimeout) (eqb reason answerPortLayerRequest) e
+    (λ t. at-number (λ n. isAnswer n ≡ true) reason answerOpenTimeout t refl)
+    (λ t. at-number (λ n. isAnswer n ≡ true) reason answerPortLayerRequest t refl)
 
 reason5 : {f : Fields} → Facts 5 4 f → isAnswer (f .reason) ≡ true
 reason5 {f} v =
-    timeout-or-request (f .reason) (in-range (eqb (f .reason) openTimeout || eqb (f .reason) portLayerRequest) (eqb (f .reason) 0) (v .reason))
+    timeout-or-request (f .reason) (in-range (eqb (f .reason) answerOpenTimeout || eqb (f .reason) answerPortLayerRequest) (eqb (f .reason) 0) (v .reason))
 
 reason6 : {f : Fields} → Facts 6 4 f → isAnswer (f .reason) ≡ true
 reason6 {f} v =
-    either (eqb (f .reason) openBroken) false (in-range (eqb (f .reason) openBroken || false) (eqb (f .reason) 0) (v .reason))
-    (λ t. at-number (λ n. isAnswer n ≡ true) (f .reason) openBroken t refl)
+    either (eqb (f .reason) answerBreakReceived) false (in-range (eqb (f .reason) answerBreakReceived || false) (eqb (f .reason) 0) (v .reason))
+    (λ t. at-number (λ n. isAnswer n ≡ true) (f .reason) answerBreakReceived t refl)
     (λ t. absurd (false≢true t))
 
 -- ---- 9, OPEN_REJECT: in L1 the request is answered by the reason, in L5 the link is idle
@@ -205,8 +191,8 @@ on-break a b c d g h =
     (λ f v. record { valid = broken-valid (f .settings) (v .settings) (f .request) (asked refl v); tally = record { silent = refl; none = refl; opens = refl; request = refl; falls = omega arith }; flag = refl; reports = refl })
     (λ f v. record { valid = waiting-valid (f .settings) (v .settings) (f .request) (asked refl v); tally = record { silent = refl; none = refl; opens = refl; request = refl; falls = omega arith }; flag = refl; reports = refl })
     (q 6 2 refl)
-    (λ f v. record { valid = cut-valid (f .settings) (v .settings) (f .connection) (linked v); tally = record { silent = refl; none = refl; opens = refl }; flag = refl; reports = refl })
-    (λ f v. record { valid = cut-valid (f .settings) (v .settings) (f .connection) (linked v); tally = record { silent = refl; none = refl; opens = refl }; flag = refl; reports = refl })
+    (λ f v. record { valid = cut-valid (f .settings) (v .settings) (f .connectionProtocol) (linked v); tally = record { silent = refl; none = refl; opens = refl }; flag = refl; reports = refl })
+    (λ f v. record { valid = cut-valid (f .settings) (v .settings) (f .connectionProtocol) (linked v); tally = record { silent = refl; none = refl; opens = refl }; flag = refl; reports = refl })
     (λ f v. record { valid = idle-valid (f .settings) (v .settings); tally = record { silent = refl; none = refl; opens = refl }; flag = refl; reports = refl })
     (q 6 3 refl)
     (λ f v. record { valid = idle-valid (f .settings) (v .settings); tally = record { code = reason5 v; carries = refl; opens = refl }; flag = refl; reports = refl })
@@ -220,7 +206,7 @@ on-close a b c d g h =
     let q = still e 0 refl refl (omega arith) in
     by-shape (λ p. Stepping p e (onClose p))
     (q 0 1 refl) (q 2 1 refl) (q 6 1 refl) (q 1 2 refl) (q 2 2 refl) (q 6 2 refl)
-    (λ f v. record { valid = connected-valid (f .settings) (v .settings) (f .connection) on refl (linked v); tally = record { silent = refl; none = refl; opens = refl }; flag = refl; reports = refl })
+    (λ f v. record { valid = connected-valid (f .settings) (v .settings) (f .connectionProtocol) on refl (linked v); tally = record { silent = refl; none = refl; opens = refl }; flag = refl; reports = refl })
     (λ f v. record { valid = idle-valid (f .settings) (v .settings); tally = record { silent = refl; none = refl; opens = refl }; flag = refl; reports = refl })
     (q 5 3 refl) (q 6 3 refl) (q 5 4 refl) (q 6 4 refl)
 
@@ -253,8 +239,8 @@ waited-valid : (f : Fields) (t : ℕ) → timed t ≡ true → Facts 1 2 f → v
 unfolding validRequest
 waited-valid f t ht v =
     valid-of 1 2
-    (record { timer = t; request = longer (f .request); reason = f .reason; source = f .source; inbound = f .inbound; connection = f .connection; closed = f .closed; settings = f .settings })
-    refl (record { timer = in-use (timed t) (eqb t 0) ht; request = in-use (openKnown (longer (f .request))) (isNoOpen (longer (f .request))) (longer-known (f .request) (asked refl v)); reason = v .reason; inbound = v .inbound; connection = v .connection; closed = v .closed; settings = v .settings })
+    (record { timer = t; request = longer (f .request); reason = f .reason; inboundSource = f .inboundSource; inboundProtocol = f .inboundProtocol; connectionProtocol = f .connectionProtocol; farClosed = f .farClosed; settings = f .settings })
+    refl (record { timer = in-use (timed t) (eqb t 0) ht; request = in-use (openKnown (longer (f .request))) (isNoOpen (longer (f .request))) (longer-known (f .request) (asked refl v)); reason = v .reason; inboundProtocol = v .inboundProtocol; connectionProtocol = v .connectionProtocol; farClosed = v .farClosed; settings = v .settings })
 
 -- in L1 the request has waited longer, and the timer runs on or is over
 tick-requesting : (a b c d g h : ℕ) (f : Fields) → Facts 1 2 f → Stepping (phyOf 1 2 f) (event 13 a b c d g h) (onTick (phyOf 1 2 f))
@@ -262,7 +248,7 @@ unfolding onTick onTickAged aged tickRequesting heard left
 tick-requesting a b c d g h f v =
     let t = runs refl v in
     by-pick (Stepping (phyOf 1 2 f) (event 13 a b c d g h)) (leb (f .timer) 1)
-    (λ o. record { valid = giving-up-valid (f .settings) (v .settings) (longer (f .request)) openTimeout (longer-known (f .request) (asked refl v)) refl; tally = record { silent = refl; none = refl; opens = refl; request = refl; falls = omega (arith, at-least-one (f .timer) t) }; flag = refl; reports = refl })
+    (λ o. record { valid = giving-up-valid (f .settings) (v .settings) (longer (f .request)) answerOpenTimeout (longer-known (f .request) (asked refl v)) refl; tally = record { silent = refl; none = refl; opens = refl; request = refl; falls = omega (arith, at-least-one (f .timer) t) }; flag = refl; reports = refl })
     (λ u. record { valid = waited-valid f (f .timer - 1) (timed-down (f .timer) t u) v; tally = record { silent = refl; none = refl; opens = refl; request = refl; falls = omega (arith, at-least-one (f .timer) t) }; flag = refl; reports = refl })
 
 on-tick : (a b c d g h : ℕ) (p : Phy) → validOf p ≡ true → Stepping p (event 13 a b c d g h) (onTick p)
@@ -273,17 +259,17 @@ on-tick a b c d g h =
     by-shape P
     (λ f v. record { valid = valid-of 0 1 f refl v; tally = record { silent = refl; none = refl; opens = refl }; flag = refl; reports = refl })
     (λ f v. by-pick (Stepping (phyOf 2 1 f) e) (isOn (f .settings .accept))
-    (λ _. record { valid = connected-valid (f .settings) (v .settings) (f .inbound) off refl (inbounds v); tally = record { silent = refl; none = refl; opens = refl }; flag = refl; reports = refl })
+    (λ _. record { valid = connected-valid (f .settings) (v .settings) (f .inboundProtocol) off refl (inbounds v .1); tally = record { silent = refl; none = refl; opens = refl }; flag = refl; reports = refl })
     (λ _. record { valid = idle-valid (f .settings) (v .settings); tally = record { silent = refl; none = refl; opens = refl }; flag = refl; reports = refl }))
     (λ f v. record { valid = idle-valid (f .settings) (v .settings); tally = record { silent = refl; none = refl; opens = refl }; flag = refl; reports = refl })
     (λ f v. tick-requesting a b c d g h f v)
     (λ f v. by-pick (Stepping (phyOf 2 2 f) e) (isOn (f .settings .accept))
-    (λ _. record { valid = connected-valid (f .settings) (v .settings) (f .inbound) off refl (inbounds v); tally = record { code = opener (f .source) (longer (f .request) .destination); carries = refl; opens = refl }; flag = refl; reports = refl })
+    (λ _. record { valid = connected-valid (f .settings) (v .settings) (f .inboundProtocol) off refl (inbounds v .1); tally = record { code = opener (f .inboundSource) (longer (f .request) .destination); carries = refl; opens = refl }; flag = refl; reports = refl })
     (λ _. record { valid = idle-valid (f .settings) (v .settings); tally = record { code = refl; carries = refl; opens = refl }; flag = refl; reports = refl }))
     (λ f v. record { valid = idle-valid (f .settings) (v .settings); tally = record { code = refl; carries = refl; opens = refl }; flag = refl; reports = refl })
     (λ f v. record { valid = valid-of 3 3 f refl v; tally = record { silent = refl; none = refl; opens = refl }; flag = refl; reports = refl })
     (λ f v. by-pick (Stepping (phyOf 4 3 f) e) (leb (f .timer) 1)
-    (λ _. record { valid = cutting-valid (f .settings) (v .settings) (f .connection) (linked v); tally = record { silent = refl; none = refl; opens = refl }; flag = refl; reports = refl })
+    (λ _. record { valid = cutting-valid (f .settings) (v .settings) (f .connectionProtocol) (linked v); tally = record { silent = refl; none = refl; opens = refl }; flag = refl; reports = refl })
     (λ u. record { valid = counted-valid 4 3 f (f .timer - 1) refl (falling (f .timer) (runs refl v) u) v; tally = record { silent = refl; none = refl; opens = refl }; flag = refl; reports = refl }))
     (λ f v. by-pick (Stepping (phyOf 5 3 f) e) (leb (f .timer) 1)
     (λ _. record { valid = idle-valid (f .settings) (v .settings); tally = record { silent = refl; none = refl; opens = refl }; flag = refl; reports = refl })
@@ -323,7 +309,7 @@ one-step p e v =
     (λ k. on-tx-open a b c d g h k p v)
     (λ k. on-cancel-open a b c d g h p v)
     (λ k. on-close-connection a b c d g h p v)
-    (λ k. on-smp-break a b c d g h p v)
+    (λ k. on-smp-transmit-break a b c d g h p v)
     (λ k. on-accept 5 a b c d g h on refl refl refl refl p v)
     (λ k. on-accept 6 a b c d g h off refl refl refl refl p v)
     (λ k. on-open-received a b c d g h k p v)

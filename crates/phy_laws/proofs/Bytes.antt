@@ -7,7 +7,7 @@ use borrow.Author.Tests.{ne-eqb, eqb-true, eqb-false}
 use lib.Dec.{eqb}
 use Rattle.table.proofs.Laws.{by-test, by-order}
 use Rattle.event.specs.declared.Event.{Event}
-use Rattle.phy.specs.Names.{opened, retry, noDestination, pathwayBlocked, collided, openedByDestination, openedByOther, badDestination, rateNotSupported, protocolNotSupported, stpBusy, wrongDestination, openTimeout, openBroken, portLayerRequest, terminated}
+use Rattle.phy.specs.Names.{answerOpened, answerRetry, answerNoDestination, answerPathwayBlocked, answerCollided, answerOpenedByDestination, answerOpenedByOther, answerBadDestination, answerRate, answerProtocol, answerStpBusy, answerWrongDestination, answerOpenTimeout, answerBreakReceived, answerPortLayerRequest, answerTerminated}
 use Rattle.phy.specs.Step.{stepOf}
 use Rattle.phy.specs.declared.Phy.{Phy}
 use Rattle.phy_laws.specs.Waiting.{isAnswer}
@@ -18,34 +18,34 @@ use Rattle.phy_laws.proofs.Steps.{reports-are-listed}
 -- ---- answers
 
 -- a number that none of those from 32 to 80 is, is no answer
-none : (n : ℕ) → ((k : ℕ) → opened ≤ k → k ≤ terminated → n ≡ k → ⊥) → isAnswer n ≡ false
+none : (n : ℕ) → ((k : ℕ) → answerOpened ≤ k → k ≤ answerTerminated → n ≡ k → ⊥) → isAnswer n ≡ false
 none n h =
-    let not : (k : ℕ) → opened ≤ k → k ≤ terminated → eqb n k ≡ false = λ k a b. ne-eqb n k (h k a b) in
+    let not : (k : ℕ) → answerOpened ≤ k → k ≤ answerTerminated → eqb n k ≡ false = λ k a b. ne-eqb n k (h k a b) in
     rw (
-      not opened (omega arith) (omega arith),
-      not retry (omega arith) (omega arith),
-      not noDestination (omega arith) (omega arith),
-      not pathwayBlocked (omega arith) (omega arith),
-      not collided (omega arith) (omega arith),
-      not openedByDestination (omega arith) (omega arith),
-      not openedByOther (omega arith) (omega arith),
-      not badDestination (omega arith) (omega arith),
-      not rateNotSupported (omega arith) (omega arith),
-      not protocolNotSupported (omega arith) (omega arith),
-      not stpBusy (omega arith) (omega arith),
-      not wrongDestination (omega arith) (omega arith),
-      not openTimeout (omega arith) (omega arith),
-      not openBroken (omega arith) (omega arith),
-      not portLayerRequest (omega arith) (omega arith),
-      not terminated (omega arith) (omega arith),
+      not answerOpened (omega arith) (omega arith),
+      not answerRetry (omega arith) (omega arith),
+      not answerNoDestination (omega arith) (omega arith),
+      not answerPathwayBlocked (omega arith) (omega arith),
+      not answerCollided (omega arith) (omega arith),
+      not answerOpenedByDestination (omega arith) (omega arith),
+      not answerOpenedByOther (omega arith) (omega arith),
+      not answerBadDestination (omega arith) (omega arith),
+      not answerRate (omega arith) (omega arith),
+      not answerProtocol (omega arith) (omega arith),
+      not answerStpBusy (omega arith) (omega arith),
+      not answerWrongDestination (omega arith) (omega arith),
+      not answerOpenTimeout (omega arith) (omega arith),
+      not answerBreakReceived (omega arith) (omega arith),
+      not answerPortLayerRequest (omega arith) (omega arith),
+      not answerTerminated (omega arith) (omega arith),
     )
     refl
 
-pub answer-least : (n : ℕ) → isAnswer n ≡ true → opened ≤ n
-answer-least n a = by-order n opened (λ l. absurd (false≢true (sym (none n (λ k g h q. omega arith)) ∙ a))) (λ g. g)
+pub answer-least : (n : ℕ) → isAnswer n ≡ true → answerOpened ≤ n
+answer-least n a = by-order n answerOpened (λ l. absurd (false≢true (sym (none n (λ k g h q. omega arith)) ∙ a))) (λ g. g)
 
-answer-most : (n : ℕ) → isAnswer n ≡ true → n ≤ terminated
-answer-most n a = by-order terminated n (λ l. absurd (false≢true (sym (none n (λ k g h q. omega arith)) ∙ a))) (λ g. g)
+answer-most : (n : ℕ) → isAnswer n ≡ true → n ≤ answerTerminated
+answer-most n a = by-order answerTerminated n (λ l. absurd (false≢true (sym (none n (λ k g h q. omega arith)) ∙ a))) (λ g. g)
 
 -- a step's answer is none or one of the sixteen
 pub none-or-answer : {A : Type 0} (p : Phy) (e : Event) → (stepOf p e .answer ≡ 0 → A) → (isAnswer (stepOf p e .answer) ≡ true → A) → A

@@ -1,12 +1,13 @@
 -- One step of a valid phy by a known event, at each of the twelve shapes: the one case analysis of the phy.
 use Prim.Native.Nat.{ℕ, _+_, _-_, _*_, _≤_}
 use mathlib.Core.Bool.{Bool, true, false, _&&_, _||_}
+use mathlib.Core.List.{[], _∷_}
 use mathlib.Core.Path.{_≡_, refl, subst}
 use native.Mathlib.Omega.{arith}
 use borrow.Author.Tests.{leb-true, leb-false, le-leb}
 use lib.Dec.{eqb, leb, leb·zero}
 use Rattle.table.specs.Choice.{pick}
-use Rattle.table.proofs.Laws.{by-test, by-pick, parts}
+use Rattle.table.proofs.Laws.{by-test, by-pick, parts, one, all-hold}
 use Rattle.event.specs.Names.{STP, txOpen, tick, mostWait}
 use Rattle.event.specs.Table.{within, argumentRange, argumentsKnown, codeKnown, knownOf, openOf, openKnown}
 use Rattle.event.specs.declared.Event.{Event}
@@ -20,7 +21,7 @@ use Rattle.phy.specs.declared.Phy.{Phy}
 use Rattle.phy.specs.declared.Stepped.{Stepped}
 use Rattle.phy_laws.specs.Waiting.{waits, isAnswer}
 use Rattle.phy_laws.proofs.Counting.{accepts, heard, ticksOf, aipsOf, left}
-use Rattle.phy_laws.proofs.Shapes.{Fields, phyOf, Facts, tests}
+use Rattle.phy_laws.proofs.Shapes.{Fields, phyOf, Facts, facts}
 
 -- ---- what a step does to a waiting request
 
@@ -72,15 +73,15 @@ pub record Stepping (p : Phy) (e : Event) (r : Stepped) : Type 0 where
 -- ---- validity of a phy by its fields
 pub valid-of : (link port : ℕ) (f : Fields) → validPair link port ≡ true → Facts link port f → validOf (phyOf link port f) ≡ true
 unfolding validOf
-valid-of link port f v h = rw (v, h .timer, h .request, h .reason, h .inbound, h .connection, h .closed, h .settings)
+valid-of link port f v h = rw (v, h .timer, h .request, h .reason, h .inboundProtocol, h .connectionProtocol, h .farClosed, h .settings)
 
 -- with other settings that are valid
 pub settings-valid : (p : Phy) (s : Settings) → validSettings s ≡ true → validOf p ≡ true → validOf (withSettings p s) ≡ true
 settings-valid p s good v =
-    let t = tests p v in
+    let t = facts p v in
     valid-of (p .link) (p .port)
-    (record { timer = p .timer; request = p .request; reason = p .reason; source = p .source; inbound = p .inbound; connection = p .connection; closed = p .closed; settings = s })
-    (t .0) (record { timer = t .1; request = t .2; reason = t .3; inbound = t .4; connection = t .5; closed = t .6; settings = good })
+    (record { timer = p .timer; request = p .request; reason = p .reason; inboundSource = p .inboundSource; inboundProtocol = p .inboundProtocol; connectionProtocol = p .connectionProtocol; farClosed = p .farClosed; settings = s })
+    (t .0) (record { timer = t .1 .timer; request = t .1 .request; reason = t .1 .reason; inboundProtocol = t .1 .inboundProtocol; connectionProtocol = t .1 .connectionProtocol; farClosed = t .1 .farClosed; settings = good })
 
 -- ---- an event that leaves the phy as it is: not listed, or refused
 module _ (e : Event) (n : ℕ) (other : eqb (e .code) tick ≡ false) (opens : eqb (e .code) txOpen && eqb n 0 ≡ false) (few : n ≤ 6) where
@@ -100,32 +101,27 @@ module _ (e : Event) (n : ℕ) (other : eqb (e .code) tick ≡ false) (opens : e
 
 -- ---- small facts of kept Opens and of the timer
 
--- the ranges of an Open's arguments, the first i of them together
-abbrev fit : ℕ → ℕ → Bool
-fit i v = within (argumentRange txOpen i) v
+-- each argument of a known event is in its range
+abbrev fit : (code i v : ℕ) → Bool
+fit code i v = within (argumentRange code i) v
 
-abbrev fit2 : Open → Bool
-fit2 o = fit 0 (o .destination) && fit 1 (o .protocol)
+pub in-ranges : (code a b c d g h : ℕ) → argumentsKnown code a b c d g h ≡ true → (i : ℕ)
+    → one (fit code 0 a ∷ fit code 1 b ∷ fit code 2 c ∷ fit code 3 d ∷ fit code 4 g ∷ fit code 5 h ∷ []) i ≡ true
+unfolding argumentsKnown
+in-ranges code a b c d g h = all-hold (fit code 0 a) (fit code 1 b ∷ fit code 2 c ∷ fit code 3 d ∷ fit code 4 g ∷ fit code 5 h ∷ [])
 
-abbrev fit5 : Open → Bool
-fit5 o = fit2 o && fit 2 (o .rate) && fit 3 (o .tag) && fit 4 (o .blocked)
-
-fits : (o : Open) → openKnown o ≡ true → (fit5 o ≡ true) × (fit 5 (o .wait) ≡ true)
-unfolding openKnown argumentsKnown
-fits o k = parts (fit5 o) (fit 5 (o .wait)) k
+open-fits : (o : Open) → openKnown o ≡ true → (i : ℕ)
+    → one (fit txOpen 0 (o .destination) ∷ fit txOpen 1 (o .protocol) ∷ fit txOpen 2 (o .rate) ∷ fit txOpen 3 (o .tag) ∷ fit txOpen 4 (o .blockedCount) ∷ fit txOpen 5 (o .wait) ∷ []) i ≡ true
+unfolding openKnown
+open-fits o = in-ranges txOpen (o .destination) (o .protocol) (o .rate) (o .tag) (o .blockedCount) (o .wait)
 
 pub protocol-known : (o : Open) → openKnown o ≡ true → leb (o .protocol) STP ≡ true
 unfolding argumentRange
-protocol-known o k =
-    let a = parts (fit2 o && fit 2 (o .rate) && fit 3 (o .tag)) (fit 4 (o .blocked)) (fits o k .0) in
-    let b = parts (fit2 o && fit 2 (o .rate)) (fit 3 (o .tag)) (a .0) in
-    let c = parts (fit2 o) (fit 2 (o .rate)) (b .0) in
-    let d = parts (fit 0 (o .destination)) (fit 1 (o .protocol)) (c .0) in
-    parts (leb 0 (o .protocol)) (leb (o .protocol) STP) (d .1) .1
+protocol-known o k = parts (leb 0 (o .protocol)) (leb (o .protocol) STP) (open-fits o k 1) .1
 
 pub wait-known : (o : Open) → openKnown o ≡ true → o .wait ≤ mostWait
 unfolding argumentRange
-wait-known o k = leb-true (o .wait) mostWait (parts (leb 0 (o .wait)) (leb (o .wait) mostWait) (fits o k .1) .1)
+wait-known o k = leb-true (o .wait) mostWait (parts (leb 0 (o .wait)) (leb (o .wait) mostWait) (open-fits o k 5) .1)
 
 -- the Open of a known Tx Open
 pub open-known : (e : Event) → knownOf e ≡ true → e .code ≡ txOpen → openKnown (openOf e) ≡ true
@@ -138,13 +134,13 @@ open-known e k h =
 longer-wait : (w : ℕ) → leb w mostWait ≡ true → leb (pick (leb mostWait w) w (w + 1)) mostWait ≡ true
 longer-wait w k = by-pick (λ n. leb n mostWait ≡ true) (leb mostWait w) (λ t. k) (λ f. le-leb (w + 1) mostWait (omega (arith, leb-false mostWait w f)))
 
-longer-fits : (w : ℕ) → fit 5 w ≡ true → fit 5 (pick (leb mostWait w) w (w + 1)) ≡ true
+longer-fits : (w : ℕ) → fit txOpen 5 w ≡ true → fit txOpen 5 (pick (leb mostWait w) w (w + 1)) ≡ true
 unfolding argumentRange
 longer-fits w k = rw (leb·zero (pick (leb mostWait w) w (w + 1))) (longer-wait w (parts (leb 0 w) (leb w mostWait) k .1))
 
 pub longer-known : (o : Open) → openKnown o ≡ true → openKnown (longer o) ≡ true
 unfolding openKnown argumentsKnown longer
-longer-known o k = let q = fits o k in rw (q .0) (longer-fits (o .wait) (q .1))
+longer-known o k = let q = open-fits o k in rw (q 0, q 1, q 2, q 3, q 4) (longer-fits (o .wait) (q 5))
 
 -- a timer that runs
 abbrev pub timed : ℕ → Bool

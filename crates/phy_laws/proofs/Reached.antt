@@ -7,7 +7,7 @@ use Rattle.table.specs.Flags.{off, isFlag}
 use Rattle.event.specs.Names.{STP, mostAddress}
 use Rattle.event.specs.Table.{openKnown}
 use Rattle.event.specs.declared.Open.{Open}
-use Rattle.phy.specs.Names.{fullTimer, openTimeout, openBroken, portLayerRequest}
+use Rattle.phy.specs.Names.{fullTimer, answerOpenTimeout, answerBreakReceived, answerPortLayerRequest}
 use Rattle.phy.specs.Shapes.{noOpen, idle, requesting, selected, connected, withTimer}
 use Rattle.phy.specs.State.{validPair, validTimer, validRequest, validInbound, validSettings, validOf}
 use Rattle.phy.specs.declared.Settings.{Settings}
@@ -32,25 +32,25 @@ module _ (s : Settings) (set : validSettings s ≡ true) where
   unfolding validOf validRequest validInbound
   breaking-valid = rw set
 
-  pub broken-valid : (o : Open) → openKnown o ≡ true → validOf (requesting s 6 4 0 o openBroken) ≡ true
+  pub broken-valid : (o : Open) → openKnown o ≡ true → validOf (requesting s 6 4 0 o answerBreakReceived) ≡ true
   unfolding validOf validRequest validInbound
   broken-valid o ho = rw (ho, set)
 
-  pub giving-up-valid : (o : Open) (reason : ℕ) → openKnown o ≡ true → eqb reason openTimeout || eqb reason portLayerRequest ≡ true → validOf (requesting s 5 4 fullTimer o reason) ≡ true
+  pub giving-up-valid : (o : Open) (reason : ℕ) → openKnown o ≡ true → eqb reason answerOpenTimeout || eqb reason answerPortLayerRequest ≡ true → validOf (requesting s 5 4 fullTimer o reason) ≡ true
   unfolding validOf validRequest validInbound
   giving-up-valid o reason ho hr = rw (ho, hr, set)
 
-  pub selected-valid : (source inbound : ℕ) → leb source mostAddress ≡ true → leb inbound STP ≡ true → validOf (selected s 1 noOpen source inbound) ≡ true
+  pub selected-valid : (source protocol : ℕ) → leb source mostAddress ≡ true → leb protocol STP ≡ true → validOf (selected s 1 noOpen source protocol) ≡ true
   unfolding validOf validRequest validInbound
-  selected-valid source inbound hs hi = rw (hs, hi, set)
+  selected-valid source protocol hs hi = rw (hs, hi, set)
 
-  pub selected-waiting-valid : (o : Open) (source inbound : ℕ) → openKnown o ≡ true → leb source mostAddress ≡ true → leb inbound STP ≡ true → validOf (selected s 2 o source inbound) ≡ true
+  pub selected-waiting-valid : (o : Open) (source protocol : ℕ) → openKnown o ≡ true → leb source mostAddress ≡ true → leb protocol STP ≡ true → validOf (selected s 2 o source protocol) ≡ true
   unfolding validOf validRequest validInbound
-  selected-waiting-valid o source inbound ho hs hi = rw (ho, hs, hi, set)
+  selected-waiting-valid o source protocol ho hs hi = rw (ho, hs, hi, set)
 
-  pub connected-valid : (c closed : ℕ) → isFlag closed ≡ true → leb c STP ≡ true → validOf (connected s 3 0 c closed) ≡ true
+  pub connected-valid : (c farClosed : ℕ) → isFlag farClosed ≡ true → leb c STP ≡ true → validOf (connected s 3 0 c farClosed) ≡ true
   unfolding validOf validRequest validInbound
-  connected-valid c closed hf hc = rw (hf, hc, set)
+  connected-valid c farClosed hf hc = rw (hf, hc, set)
 
   pub closing-valid : (c : ℕ) → leb c STP ≡ true → validOf (connected s 4 fullTimer c off) ≡ true
   unfolding validOf validRequest validInbound
@@ -68,5 +68,5 @@ module _ (s : Settings) (set : validSettings s ≡ true) where
 pub counted-valid : (link port : ℕ) (f : Fields) (t : ℕ) → validPair link port ≡ true → validTimer link t ≡ true → Facts link port f → validOf (withTimer (phyOf link port f) t) ≡ true
 counted-valid link port f t v ht h =
     valid-of link port
-    (record { timer = t; request = f .request; reason = f .reason; source = f .source; inbound = f .inbound; connection = f .connection; closed = f .closed; settings = f .settings })
-    v (record { timer = ht; request = h .request; reason = h .reason; inbound = h .inbound; connection = h .connection; closed = h .closed; settings = h .settings })
+    (record { timer = t; request = f .request; reason = f .reason; inboundSource = f .inboundSource; inboundProtocol = f .inboundProtocol; connectionProtocol = f .connectionProtocol; farClosed = f .farClosed; settings = f .settings })
+    v (record { timer = ht; request = h .request; reason = h .reason; inboundProtocol = h .inboundProtocol; connectionProtocol = h .connectionProtocol; farClosed = h .farClosed; settings = h .settings })

@@ -17,12 +17,12 @@ use Rattle.event.specs.declared.Event.{Event}
 use Rattle.phy.specs.Names.{L3, P1, P2}
 use Rattle.phy.specs.State.{validOf}
 use Rattle.phy.specs.Shapes.{refused}
-use Rattle.phy.specs.Moves.{idleRows, toIdle, txOpenRows, openByLink, onTxOpen, cancelRows, onCancelOpen, onCloseConnection, onSmpBreak, onAccept, openRows, onOpenReceived, openAcceptRows, onOpenAccept, openRejectRows, onOpenReject, aipRows, onAip, breakRows, onBreak, closeRows, onClose, resetRows, onReset}
+use Rattle.phy.specs.Moves.{idleRows, toIdle, txOpenRows, openByLink, onTxOpen, cancelRows, onCancelOpen, onCloseConnection, onSmpTransmitBreak, onAccept, openRows, onOpenReceived, openAcceptRows, onOpenAccept, openRejectRows, onOpenReject, aipRows, onAip, breakRows, onBreak, closeRows, onClose, resetRows, onReset}
 use Rattle.phy.specs.Ticks.{aged, tickRequesting, tickClosing, tickBreaking, acceptRows, accepted, tickSelected, tickRows, onTickAged, onTick}
 use Rattle.phy.specs.Step.{moveOf, stepOf}
 use Rattle.phy.specs.declared.Phy.{Phy}
 use Rattle.phy.specs.declared.Stepped.{Stepped}
-use Rattle.phy_laws.specs.Laws.{Judged, StepIsMove, BadStateExactly, BadEventExactly, BusyExactly, NothingPendingExactly, NotConnectedExactly, WrongProtocolExactly, Free, TakenExactly, RefusedKeeps}
+use Rattle.phy_laws.specs.Laws.{Judged, StepIsMove, BadStateExactly, BadEventExactly, BusyExactly, NothingPendingExactly, NotConnectedExactly, WrongProtocolExactly, Free, NotRefusedExactly, RefusedKeeps}
 use Rattle.phy_laws.proofs.ByEvent.{event, by-code, code-known}
 use Rattle.phy_laws.proofs.Steps.{by-way}
 
@@ -63,7 +63,7 @@ data Judgement (p : Phy) (e : Event) : Stepped → Type 0 where
   is-busy : e .code ≡ 1 → (p .port ≡ P1 → ⊥) → Judgement p e (refused p busy)
   is-idle : e .code ≡ 2 → (p .port ≡ P2 → ⊥) → Judgement p e (refused p nothingPending)
   is-apart : (e .code ≡ 3) ⊎ (e .code ≡ 4) → (p .link ≡ L3 → ⊥) → Judgement p e (refused p notConnected)
-  is-other : e .code ≡ 4 → p .link ≡ L3 → (p .connection ≡ SMP → ⊥) → Judgement p e (refused p wrongProtocol)
+  is-other : e .code ≡ 4 → p .link ≡ L3 → (p .connectionProtocol ≡ SMP → ⊥) → Judgement p e (refused p wrongProtocol)
 
 -- at each code
 module _ (p : Phy) (a b c d g h : ℕ) where
@@ -88,16 +88,16 @@ module _ (p : Phy) (a b c d g h : ℕ) where
   close-judged =
       by-pick (Judgement p (event 3 a b c d g h)) (eqb (p .link) L3)
       (λ t. taken (record { opens = λ x. absurd (omega arith); cancels = λ x. absurd (omega arith); closes = λ _. eqb-true (p .link) L3 t; breaks = λ x. absurd (omega arith); protocol = λ x. absurd (omega arith) })
-      (by-pick Taken (isOn (p .closed)) (λ _. refl) (λ _. refl)))
+      (by-pick Taken (isOn (p .farClosed)) (λ _. refl) (λ _. refl)))
       (λ f. is-apart (inl refl) (eqb-false (p .link) L3 f))
 
-  break-judged : Judgement p (event 4 a b c d g h) (onSmpBreak p)
-  unfolding onSmpBreak
+  break-judged : Judgement p (event 4 a b c d g h) (onSmpTransmitBreak p)
+  unfolding onSmpTransmitBreak
   break-judged =
       by-pick (Judgement p (event 4 a b c d g h)) (eqb (p .link) L3)
-      (λ t. by-pick (Judgement p (event 4 a b c d g h)) (eqb (p .connection) SMP)
-      (λ s. taken (record { opens = λ x. absurd (omega arith); cancels = λ x. absurd (omega arith); closes = λ x. absurd (omega arith); breaks = λ _. eqb-true (p .link) L3 t; protocol = λ _. eqb-true (p .connection) SMP s }) refl)
-      (λ s. is-other refl (eqb-true (p .link) L3 t) (eqb-false (p .connection) SMP s)))
+      (λ t. by-pick (Judgement p (event 4 a b c d g h)) (eqb (p .connectionProtocol) SMP)
+      (λ s. taken (record { opens = λ x. absurd (omega arith); cancels = λ x. absurd (omega arith); closes = λ x. absurd (omega arith); breaks = λ _. eqb-true (p .link) L3 t; protocol = λ _. eqb-true (p .connectionProtocol) SMP s }) refl)
+      (λ s. is-other refl (eqb-true (p .link) L3 t) (eqb-false (p .connectionProtocol) SMP s)))
       (λ f. is-apart (inr refl) (eqb-false (p .link) L3 f))
 
 judged : (p : Phy) (e : Event) → knownOf e ≡ true → Judgement p e (moveOf p e)
@@ -136,7 +136,7 @@ Why p e n =
     ∷ (busy ⇒ ((e .code ≡ 1) × (p .port ≡ P1 → ⊥)))
     ∷ (nothingPending ⇒ ((e .code ≡ 2) × (p .port ≡ P2 → ⊥)))
     ∷ (notConnected ⇒ (((e .code ≡ 3) ⊎ (e .code ≡ 4)) × (p .link ≡ L3 → ⊥)))
-    ∷ (wrongProtocol ⇒ ((e .code ≡ 4) × (p .link ≡ L3) × (p .connection ≡ SMP → ⊥)))
+    ∷ (wrongProtocol ⇒ ((e .code ≡ 4) × (p .link ≡ L3) × (p .connectionProtocol ≡ SMP → ⊥)))
     ∷ [])
     ⊥
 
@@ -169,7 +169,7 @@ give-apart (is-idle d _) c n = absurd (⊎-elim (λ x. omega arith) (λ x. omega
 give-apart (is-apart _ _) c n = refl
 give-apart (is-other _ l _) c n = absurd (n l)
 
-give-other : {p : Phy} {e : Event} {r : Stepped} → Judgement p e r → e .code ≡ 4 → p .link ≡ L3 → (p .connection ≡ SMP → ⊥) → r .refusal ≡ wrongProtocol
+give-other : {p : Phy} {e : Event} {r : Stepped} → Judgement p e r → e .code ≡ 4 → p .link ≡ L3 → (p .connectionProtocol ≡ SMP → ⊥) → r .refusal ≡ wrongProtocol
 give-other (taken f z) c l n = absurd (n (f .protocol c))
 give-other (is-busy d _) c l n = absurd (omega arith)
 give-other (is-idle d _) c l n = absurd (omega arith)
@@ -235,8 +235,8 @@ wrong-protocol-exactly p e = (
   λ w. rw (step-is-move p e (w .0)) (give-other (judged p e (w .0 .known)) (w .1) (w .2) (w .3)),
 )
 
-pub taken-exactly : TakenExactly
-taken-exactly p e = (
+pub not-refused-exactly : NotRefusedExactly
+not-refused-exactly p e = (
   λ q. reason p e 0 (omega arith) (omega arith) q,
   λ w. rw (step-is-move p e (w .0)) (give-none (judged p e (w .0 .known)) (w .1)),
 )

@@ -1,11 +1,12 @@
 -- Every valid phy has one of twelve shapes, told by its link state; and a phy of a shape is valid.
 use Prim.Native.Nat.{ℕ}
 use mathlib.Core.Bool.{true}
+use mathlib.Core.List.{[], _∷_}
 use mathlib.Core.Path.{_≡_}
 use lib.Dec.{eqb}
-use Rattle.table.proofs.Laws.{parts}
+use Rattle.table.proofs.Laws.{parts, all-hold}
 use Rattle.event.specs.declared.Open.{Open}
-use Rattle.phy.specs.State.{validPair, validTimer, validRequest, validReason, validInbound, validConnection, validClosed, validSettings, validOf}
+use Rattle.phy.specs.State.{validPair, validTimer, validRequest, validReason, validInbound, validConnection, validFarClosed, validSettings, validOf}
 use Rattle.phy.specs.declared.Settings.{Settings}
 use Rattle.phy.specs.declared.Phy.{Phy}
 use Rattle.phy_laws.proofs.Tests.{either, at-number}
@@ -33,38 +34,35 @@ pub record Fields : Type 0 where
   pub timer : ℕ
   pub request : Open
   pub reason : ℕ
-  pub source : ℕ
-  pub inbound : ℕ
-  pub connection : ℕ
-  pub closed : ℕ
+  pub inboundSource : ℕ
+  pub inboundProtocol : ℕ
+  pub connectionProtocol : ℕ
+  pub farClosed : ℕ
   pub settings : Settings
 
 abbrev pub phyOf : (link port : ℕ) → Fields → Phy
 phyOf link port f =
-    record { link = link; port = port; timer = f .timer; request = f .request; reason = f .reason; source = f .source; inbound = f .inbound; connection = f .connection; closed = f .closed; settings = f .settings }
+    record { link = link; port = port; timer = f .timer; request = f .request; reason = f .reason; inboundSource = f .inboundSource; inboundProtocol = f .inboundProtocol; connectionProtocol = f .connectionProtocol; farClosed = f .farClosed; settings = f .settings }
 
 pub record Facts (link port : ℕ) (f : Fields) : Type 0 where
   pub timer : validTimer link (f .timer) ≡ true
   pub request : validRequest port (f .request) ≡ true
   pub reason : validReason link port (f .reason) ≡ true
-  pub inbound : validInbound link (f .source) (f .inbound) ≡ true
-  pub connection : validConnection port (f .connection) ≡ true
-  pub closed : validClosed link (f .closed) ≡ true
+  pub inboundProtocol : validInbound link (f .inboundSource) (f .inboundProtocol) ≡ true
+  pub connectionProtocol : validConnection port (f .connectionProtocol) ≡ true
+  pub farClosed : validFarClosed link (f .farClosed) ≡ true
   pub settings : validSettings (f .settings) ≡ true
 
+abbrev pub fieldsOf : Phy → Fields
+fieldsOf p =
+    record { timer = p .timer; request = p .request; reason = p .reason; inboundSource = p .inboundSource; inboundProtocol = p .inboundProtocol; connectionProtocol = p .connectionProtocol; farClosed = p .farClosed; settings = p .settings }
+
 -- the eight tests of a valid phy
-pub tests : (p : Phy) → validOf p ≡ true
-    → (validPair (p .link) (p .port) ≡ true) × (validTimer (p .link) (p .timer) ≡ true) × (validRequest (p .port) (p .request) ≡ true) × (validReason (p .link) (p .port) (p .reason) ≡ true) × (validInbound (p .link) (p .source) (p .inbound) ≡ true) × (validConnection (p .port) (p .connection) ≡ true) × (validClosed (p .link) (p .closed) ≡ true) × (validSettings (p .settings) ≡ true)
+pub facts : (p : Phy) → validOf p ≡ true → (validPair (p .link) (p .port) ≡ true) × Facts (p .link) (p .port) (fieldsOf p)
 unfolding validOf
-tests p v =
-    let h = parts _ _ v in
-    let g = parts _ _ (h .0) in
-    let f = parts _ _ (g .0) in
-    let e = parts _ _ (f .0) in
-    let d = parts _ _ (e .0) in
-    let c = parts _ _ (d .0) in
-    let b = parts _ _ (c .0) in
-    (b .0, b .1, c .1, d .1, e .1, f .1, g .1, h .1)
+facts p v =
+    let t = all-hold _ (_ ∷ _ ∷ _ ∷ _ ∷ _ ∷ _ ∷ _ ∷ []) v in
+    (t 0, record { timer = t 1; request = t 2; reason = t 3; inboundProtocol = t 4; connectionProtocol = t 5; farClosed = t 6; settings = t 7 })
 
 -- what holds of each of the twelve shapes holds of every valid phy
 pub by-shape :
@@ -75,8 +73,8 @@ pub by-shape :
     → ((f : Fields) → Facts 5 4 f → Q (phyOf 5 4 f)) → ((f : Fields) → Facts 6 4 f → Q (phyOf 6 4 f))
     → (p : Phy) → validOf p ≡ true → Q p
 by-shape Q a b c d e f g h i j k l p v =
-    let t = tests p v in
-    let rest : Fields = record { timer = p .timer; request = p .request; reason = p .reason; source = p .source; inbound = p .inbound; connection = p .connection; closed = p .closed; settings = p .settings } in
+    let rest = fieldsOf p in
+    let t = facts p v in
     by-pair (λ m n. Facts m n rest → Q (phyOf m n rest)) (p .link) (p .port) (t .0)
     (a rest) (b rest) (c rest) (d rest) (e rest) (f rest) (g rest) (h rest) (i rest) (j rest) (k rest) (l rest)
-    (record { timer = t .1; request = t .2; reason = t .3; inbound = t .4; connection = t .5; closed = t .6; settings = t .7 })
+    (t .1)

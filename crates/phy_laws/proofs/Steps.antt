@@ -1,12 +1,13 @@
 -- Any step goes one of three ways: the phy is refused, the event is refused, or the one-step law holds.
 use Prim.Native.Nat.{_≤_}
 use mathlib.Core.Bool.{true, false, _&&_}
+use mathlib.Core.List.{[], _∷_}
 use mathlib.Core.Path.{_≡_, refl}
 use native.Mathlib.Omega.{arith}
 use borrow.Author.Tests.{leb-true}
 use lib.Dec.{leb}
 use Rattle.table.specs.Refusals.{badState, badEvent}
-use Rattle.table.proofs.Laws.{by-pick, parts}
+use Rattle.table.proofs.Laws.{by-pick, all-hold}
 use Rattle.event.specs.Table.{knownOf}
 use Rattle.event.specs.declared.Event.{Event}
 use Rattle.phy.specs.State.{validOf, validRequest, validInbound}
@@ -42,9 +43,8 @@ flag-kept p e f = by-way (λ r. r .next .settings ≡ p .settings) p e (λ _. re
 
 listed : (r : Stepped) → leb (r .notice) 7 && leb (r .sent) 5 && leb (r .refusal) 6 ≡ true → (r .notice ≤ 7) × (r .sent ≤ 5) × (r .refusal ≤ 6)
 listed r h =
-    let a = parts (leb (r .notice) 7 && leb (r .sent) 5) (leb (r .refusal) 6) h in
-    let b = parts (leb (r .notice) 7) (leb (r .sent) 5) (a .0) in
-    (leb-true (r .notice) 7 (b .0), leb-true (r .sent) 5 (b .1), leb-true (r .refusal) 6 (a .1))
+    let h = all-hold (leb (r .notice) 7) (leb (r .sent) 5 ∷ leb (r .refusal) 6 ∷ []) h in
+    (leb-true (r .notice) 7 (h 0), leb-true (r .sent) 5 (h 1), leb-true (r .refusal) 6 (h 2))
 
 pub reports-are-listed : ReportsAreListed
 reports-are-listed p e =

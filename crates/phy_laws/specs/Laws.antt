@@ -1,14 +1,15 @@
--- What holds of every step of a phy. Each statement is proved in proofs/ under its own name.
+-- What holds of every step of a phy. A heading names the file of proofs/.
 use Prim.Native.Nat.{_≤_, _<_}
 use mathlib.Core.Bool.{true, false, _||_}
 use mathlib.Core.Logic.{_↔_, _⊎_}
 use mathlib.Core.Path.{_≡_}
 use lib.Dec.{eqb}
 use Rattle.table.specs.Refusals.{badState, badEvent, busy, nothingPending, notConnected, wrongProtocol}
-use Rattle.event.specs.Names.{SMP, txOpen, cancelOpen, closeConnection, smpTransmitBreak, acceptOpens, rejectOpens, hardReset, phyDisabled}
+use Rattle.event.specs.Names.{SMP, txOpen, cancelOpen, closeConnection, smpTransmitBreak, acceptOpens, rejectOpens}
+use Rattle.event.specs.Names.{hardReset, phyDisabled}
 use Rattle.event.specs.Table.{knownOf}
 use Rattle.event.specs.declared.Event.{Event}
-use Rattle.phy.specs.Names.{L3, P1, P2, P3, closedReset, BREAK}
+use Rattle.phy.specs.Names.{L3, P1, P2, P3, noticeReset, sentBreak}
 use Rattle.phy.specs.Shapes.{noOpen, freshPhy, refused}
 use Rattle.phy.specs.State.{validOf}
 use Rattle.phy.specs.Step.{moveOf, stepOf}
@@ -56,15 +57,23 @@ BusyExactly = (p : Phy) (e : Event) → stepOf p e .refusal ≡ busy ↔ Judged 
 
 -- 4: Cancel Open, and the port is not in P2
 abbrev pub NothingPendingExactly : Type 0
-NothingPendingExactly = (p : Phy) (e : Event) → stepOf p e .refusal ≡ nothingPending ↔ Judged p e × (e .code ≡ cancelOpen) × (p .port ≡ P2 → ⊥)
+NothingPendingExactly =
+    (p : Phy) (e : Event)
+    → stepOf p e .refusal ≡ nothingPending ↔ Judged p e × (e .code ≡ cancelOpen) × (p .port ≡ P2 → ⊥)
 
 -- 5: Close or SMP Break, and the link is not in L3
 abbrev pub NotConnectedExactly : Type 0
-NotConnectedExactly = (p : Phy) (e : Event) → stepOf p e .refusal ≡ notConnected ↔ Judged p e × ((e .code ≡ closeConnection) ⊎ (e .code ≡ smpTransmitBreak)) × (p .link ≡ L3 → ⊥)
+NotConnectedExactly =
+    (p : Phy) (e : Event)
+    → stepOf p e .refusal ≡ notConnected
+    ↔ Judged p e × ((e .code ≡ closeConnection) ⊎ (e .code ≡ smpTransmitBreak)) × (p .link ≡ L3 → ⊥)
 
 -- 6: SMP Break in L3, and the connection is not SMP
 abbrev pub WrongProtocolExactly : Type 0
-WrongProtocolExactly = (p : Phy) (e : Event) → stepOf p e .refusal ≡ wrongProtocol ↔ Judged p e × (e .code ≡ smpTransmitBreak) × (p .link ≡ L3) × (p .connection ≡ SMP → ⊥)
+WrongProtocolExactly =
+    (p : Phy) (e : Event)
+    → stepOf p e .refusal ≡ wrongProtocol
+    ↔ Judged p e × (e .code ≡ smpTransmitBreak) × (p .link ≡ L3) × (p .connectionProtocol ≡ SMP → ⊥)
 
 -- none of 3 to 6 applies
 pub record Free (p : Phy) (e : Event) : Type 0 where
@@ -72,11 +81,11 @@ pub record Free (p : Phy) (e : Event) : Type 0 where
   pub cancels : e .code ≡ cancelOpen → p .port ≡ P2
   pub closes : e .code ≡ closeConnection → p .link ≡ L3
   pub breaks : e .code ≡ smpTransmitBreak → p .link ≡ L3
-  pub protocol : e .code ≡ smpTransmitBreak → p .connection ≡ SMP
+  pub protocol : e .code ≡ smpTransmitBreak → p .connectionProtocol ≡ SMP
 
 -- 0: nothing is refused
-abbrev pub TakenExactly : Type 0
-TakenExactly = (p : Phy) (e : Event) → stepOf p e .refusal ≡ 0 ↔ Judged p e × Free p e
+abbrev pub NotRefusedExactly : Type 0
+NotRefusedExactly = (p : Phy) (e : Event) → stepOf p e .refusal ≡ 0 ↔ Judged p e × Free p e
 
 -- ---- answers (proofs/Answers)
 
@@ -98,13 +107,15 @@ ArgumentsExactly = (p : Phy) (e : Event) → stepOf p e .answered ≡ noOpen ↔
 -- the accept flag changes by events 5, 6, 14 and 15 alone
 abbrev pub FlagKept : Type 0
 FlagKept =
-    (p : Phy) (e : Event) → eqb (e .code) acceptOpens || eqb (e .code) rejectOpens || eqb (e .code) hardReset || eqb (e .code) phyDisabled ≡ false
+    (p : Phy) (e : Event)
+    → eqb (e .code) acceptOpens || eqb (e .code) rejectOpens || eqb (e .code) hardReset || eqb (e .code) phyDisabled
+    ≡ false
     → stepOf p e .next .settings ≡ p .settings
 
 -- one notice, one primitive and one refusal at most, each of those that the paper lists
 pub record ReportsListed (p : Phy) (e : Event) : Type 0 where
-  pub notice : stepOf p e .notice ≤ closedReset
-  pub sent : stepOf p e .sent ≤ BREAK
+  pub notice : stepOf p e .notice ≤ noticeReset
+  pub sent : stepOf p e .sent ≤ sentBreak
   pub refusal : stepOf p e .refusal ≤ wrongProtocol
 
 abbrev pub ReportsAreListed : Type 0

@@ -2,7 +2,10 @@
 use Prim.Native.Nat.{ℕ}
 use mathlib.Core.Bool.{Bool, _||_}
 use lib.Dec.{eqb}
-use Rattle.phy.specs.Names.{P2, P4, opened, retry, noDestination, pathwayBlocked, collided, openedByDestination, openedByOther, badDestination, rateNotSupported, protocolNotSupported, stpBusy, wrongDestination, openTimeout, openBroken, portLayerRequest, terminated}
+use Rattle.phy.specs.Names.{P2, P4, answerOpened, answerRetry, answerNoDestination, answerPathwayBlocked}
+use Rattle.phy.specs.Names.{answerCollided, answerOpenedByDestination, answerOpenedByOther, answerBadDestination}
+use Rattle.phy.specs.Names.{answerRate, answerProtocol, answerStpBusy, answerWrongDestination, answerOpenTimeout}
+use Rattle.phy.specs.Names.{answerBreakReceived, answerPortLayerRequest, answerTerminated}
 
 -- a request waits in P2 and P4
 abbrev pub waits : (port : ℕ) → Bool
@@ -11,6 +14,8 @@ waits port = eqb port P2 || eqb port P4
 -- the sixteen answers
 abbrev pub isAnswer : ℕ → Bool
 isAnswer n =
-    eqb n opened || eqb n retry || eqb n noDestination || eqb n pathwayBlocked || eqb n collided || eqb n openedByDestination || eqb n openedByOther
-    || eqb n badDestination || eqb n rateNotSupported || eqb n protocolNotSupported || eqb n stpBusy || eqb n wrongDestination || eqb n openTimeout
-    || eqb n openBroken || eqb n portLayerRequest || eqb n terminated
+    eqb n answerOpened || eqb n answerRetry || eqb n answerNoDestination || eqb n answerPathwayBlocked
+    || eqb n answerCollided || eqb n answerOpenedByDestination || eqb n answerOpenedByOther
+    || eqb n answerBadDestination || eqb n answerRate || eqb n answerProtocol || eqb n answerStpBusy
+    || eqb n answerWrongDestination || eqb n answerOpenTimeout || eqb n answerBreakReceived
+    || eqb n answerPortLayerRequest || eqb n answerTerminated

@@ -2,11 +2,9 @@
 use Prim.Native.Nat.{ℕ}
 use mathlib.Core.List.{List}
 use mathlib.Core.Path.{_≡_, sym, ap, _∙_}
-use Rattle.phy.specs.declared.Phy.{Phy}
-use Rattle.run.specs.Contracts as told
-use Rattle.run.specs.Running.{tellsStop}
+use Rattle.table.specs.Results.{Leaves}
+use Rattle.run.specs.Running.{Told, tellsStop, tells}
 use Rattle.run.specs.declared.Ran.{Ran}
-use Rattle.replies.specs.Contracts.{Runs}
 use Rattle.replies.specs.Replies.{stopReply, runReply}
 use Rattle.replies.specs.declared.StopReply.{StopReply}
 use Rattle.replies.specs.declared.RunReply.{RunReply}
@@ -18,7 +16,6 @@ as-matched reply same e = e ∙ sym (ap reply same)
 abbrev replied : Ran → StopReply → RunReply
 replied ran stop = record { next = ran .next; count = ran .count; stop = stop }
 
-pub run-says :
-    {p : Phy} {s : List ℕ} {budget : ℕ} {before after : List ℕ} {ran : Ran} {stop : StopReply}
-    → told.Runs p s budget before ran after → stop ≡ stopReply (tellsStop (ran .stop)) → Runs p s budget before (replied ran stop) after
-run-says {ran = ran} w e = record { says = ap (replied ran) e ∙ ap runReply (w .says); bytes = w .bytes }
+pub run-says : (ran : Ran) {stop : StopReply} {due : Told} {after left : List ℕ}
+    → Leaves (tells ran) due after left → stop ≡ stopReply (tellsStop (ran .stop)) → Leaves (replied ran stop) (runReply due) after left
+run-says ran w e = record { says = ap (replied ran) e ∙ ap runReply (w .says); leaves = w .leaves }

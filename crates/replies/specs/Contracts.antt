@@ -1,7 +1,8 @@
--- What each public function promises, cited by its `ensures` and by the theorem that two results it allows coincide.
+-- What each public function promises, cited by its `ensures` and by `Determined` in Laws.
 use Prim.Native.Nat.{ℕ}
 use mathlib.Core.List.{List}
 use mathlib.Core.Path.{_≡_}
+use Rattle.table.specs.Results.{Leaves}
 use Rattle.number.specs.Reading.{readNumber}
 use Rattle.number.specs.Writing as numbers
 use Rattle.event.specs.declared.Event.{Event}
@@ -20,20 +21,20 @@ abbrev pub ReadsNumber : List ℕ → ℕ → NumberReply → Type 0
 ReadsNumber s place r = r ≡ numberReply place (readNumber s place)
 
 -- `write_number` of v into the buffer `before` at a place, which leaves it as `after`
-pub record WritesNumber (v : ℕ) (before : List ℕ) (place : ℕ) (r : WriteReply) (after : List ℕ) : Type 0 where
-  pub says : r ≡ numberWritten (numbers.writeNumber v before place)
-  pub bytes : after ≡ numbers.bufferAfter v before place
+abbrev pub WritesNumber : (v : ℕ) (before : List ℕ) (place : ℕ) → WriteReply → (after : List ℕ) → Type 0
+WritesNumber v before place r after =
+    Leaves r (numberWritten (numbers.writeNumber v before place)) after (numbers.bufferAfter v before place)
 
 -- `read_event` of the trace s at a place
 abbrev pub ReadsEvent : List ℕ → ℕ → EventReply → Type 0
 ReadsEvent s place r = r ≡ eventReply place (readEvent s place)
 
 -- `write_event` of an event into the buffer `before` at a place, which leaves it as `after`
-pub record WritesEvent (e : Event) (before : List ℕ) (place : ℕ) (r : WriteReply) (after : List ℕ) : Type 0 where
-  pub says : r ≡ eventWritten (traces.writeEvent e before place)
-  pub bytes : after ≡ traces.bufferAfter e before place
+abbrev pub WritesEvent : (e : Event) (before : List ℕ) (place : ℕ) → WriteReply → (after : List ℕ) → Type 0
+WritesEvent e before place r after =
+    Leaves r (eventWritten (traces.writeEvent e before place)) after (traces.bufferAfter e before place)
 
 -- `run` of any phy over any trace under a budget, with the buffer `before`, which it leaves as `after`
-pub record Runs (p : Phy) (s : List ℕ) (budget : ℕ) (before : List ℕ) (r : RunReply) (after : List ℕ) : Type 0 where
-  pub says : r ≡ runReply (runs.runOf p s budget before)
-  pub bytes : after ≡ runs.bufferAfter p s budget before
+abbrev pub Runs : (p : Phy) (s : List ℕ) (budget : ℕ) (before : List ℕ) → RunReply → (after : List ℕ) → Type 0
+Runs p s budget before r after =
+    Leaves r (runReply (runs.runOf p s budget before)) after (runs.bufferAfter p s budget before)

@@ -3,6 +3,7 @@ use Prim.Native.Nat.{ℕ}
 use mathlib.Core.List.{[]}
 use Rattle.number.specs.Reading as number
 use Rattle.number.specs.Writing as numbers
+use Rattle.event.specs.Table.{eventOf}
 use Rattle.trace.specs.Reading as trace
 use Rattle.trace.specs.Writing as traces
 use Rattle.run.specs.Running.{Halt, atEnd, atBudget, atFault, refused, Told}
@@ -42,7 +43,7 @@ foundFault = 2
 
 -- a zero event, and the place does not move
 abbrev pub noEvent : (place how refusal : ℕ) → EventReply
-noEvent place how refusal = record { event = trace.eventOf 0 []; next = place; how = how; refusal = refusal }
+noEvent place how refusal = record { event = eventOf 0 []; next = place; how = how; refusal = refusal }
 
 -- how reading ended
 abbrev pub howRead : trace.Told → ℕ
@@ -58,7 +59,13 @@ faultRead (trace.refused n at) = n
 
 -- what reading says at a place: without an event a zero event, and the place does not move
 abbrev pub eventReply : (place : ℕ) → trace.Told → EventReply
-eventReply place t = record { event = trace.eventGiven t; next = trace.placeReached place t; how = howRead t; refusal = faultRead t }
+eventReply place t =
+    record {
+      event = trace.eventGiven t;
+      next = trace.placeReached place t;
+      how = howRead t;
+      refusal = faultRead t;
+    }
 
 -- the number of a refusal, or 0
 abbrev pub refusalWritten : traces.ToldWritten → ℕ

@@ -64,11 +64,11 @@ const FOUND_END: u64 = 1;
 const FOUND_FAULT: u64 = 2;
 
 // How a run stopped.
-const AT_END: u64 = 0;
+const STOPPED_AT_END: u64 = 0;
 
-const AT_BUDGET: u64 = 1;
+const STOPPED_AT_BUDGET: u64 = 1;
 
-const AT_FAULT: u64 = 2;
+const STOPPED_AT_FAULT: u64 = 2;
 
 const NO_EVENT: Event = Event {
     code: 0,
@@ -205,7 +205,7 @@ fn fault_at(fault: u64, place: usize) -> StopReply
     ensures { λ r. ⌜ r ≡ faultAt fault place ⌝ }
 {
     StopReply {
-        how: AT_FAULT,
+        how: STOPPED_AT_FAULT,
         fault,
         place,
         refusal: 0,
@@ -216,8 +216,8 @@ fn stop_reply(stop: Stop) -> StopReply
     ensures { λ r. ⌜ r ≡ stopReply (tellsStop stop) ⌝ }
 {
     match stop {
-        Stop::End => at_no_fault(AT_END, 0),
-        Stop::Budget => at_no_fault(AT_BUDGET, 0),
+        Stop::End => at_no_fault(STOPPED_AT_END, 0),
+        Stop::Budget => at_no_fault(STOPPED_AT_BUDGET, 0),
         Stop::BadEvent(place) => fault_at(table::BAD_EVENT, place),
         Stop::Cut(place) => fault_at(table::CUT, place),
         Stop::Overlong(place) => fault_at(table::OVERLONG, place),

@@ -1,11 +1,12 @@
 -- Each way to stop says one thing, so a contract that gives what is said gives the result.
 use mathlib.Core.List.{[], _∷_}
-use mathlib.Core.Path.{_≡_, refl, sym, ap, _∙_}
+use mathlib.Core.Path.{_≡_, refl, ap}
 use Rattle.table.specs.Choice.{_⇒_, rows}
 use Rattle.table.specs.Refusals.{badState, badEvent, cut, overlong}
+use Rattle.table.specs.Results.{TellsOnce}
+use Rattle.table.proofs.Results.{leads-back, with-lent}
 use Rattle.run.specs.Running.{Halt, atEnd, atBudget, atFault, refused, Told, tellsStop, tells}
-use Rattle.run.specs.Laws.{StopTellsOnce, RunDetermined}
-use Rattle.run.specs.declared.Ran.{Ran}
+use Rattle.run.specs.Laws.{Determined}
 use Rattle.run.specs.declared.Stop.{Stop}
 use Rattle.run.specs.declared.Stop.the-variants.{End, Budget, BadEvent, Cut, Overlong, TooLarge, BadState, NoRoom}
 
@@ -27,13 +28,18 @@ stops (TooLarge place) = refl
 stops BadState = refl
 stops NoRoom = refl
 
-pub stop-tells-once : StopTellsOnce
-stop-tells-once r q e = sym (stops r) ∙ ap stop e ∙ stops q
+pub stop-once : TellsOnce tellsStop
+stop-once = leads-back stop stops
 
-same-ran : (r q : Ran) → tells r ≡ tells q → r ≡ q
+same-ran : TellsOnce tells
 same-ran r q e =
-    let s : r .stop ≡ q .stop = stop-tells-once (r .stop) (q .stop) (ap (λ (t : Told). t .halt) e) in
+    let s : r .stop ≡ q .stop = stop-once (r .stop) (q .stop) (ap (λ (t : Told). t .halt) e) in
     λ i. record { next = e i .state; count = e i .count; stop = s i }
 
-pub run-determined : RunDetermined
-run-determined p s budget before r q after later a b = (same-ran r q (a .says ∙ sym (b .says)), a .bytes ∙ sym (b .bytes))
+pub determined : Determined
+determined =
+    record {
+      stop-once = stop-once;
+      ran-once = same-ran;
+      run = λ p s budget before. with-lent same-ran _ _;
+    }

@@ -95,37 +95,37 @@ module _ {p : Phy} {s : List ℕ} {budget : ℕ} {before : List ℕ} {state : Ph
         }
 
   -- ---- nothing more is taken
-  halted : {halt : Halt} {r : Ran} → taking (w .left) s place ≡ stops halt → tells r ≡ told count state halt → TakesEvents p s budget before r buffer
-  halted {halt} t q =
+  halted : {halt : Halt} (r : Ran) → taking (w .left) s place ≡ stops halt → tells r ≡ told count state halt → TakesEvents p s budget before r buffer
+  halted {halt} r t q =
       record {
         says = q ∙ sym (w .says ∙ rw t (ap (λ (n : ℕ). told n state halt) (omega arith)));
-        bytes = sym (w .bytes ∙ rw t refl);
+        leaves = sym (w .bytes ∙ rw t refl);
       }
 
   -- the budget is spent before the trace's end
-  pub halted-budget : {r : Ran} → place < length s → budget ≤ count → tells r ≡ told count state atBudget → TakesEvents p s budget before r buffer
-  halted-budget h q = halted (ap (λ (n : ℕ). taking n s place) (none-left q) ∙ taking-spent s place h)
+  pub halted-budget : (r : Ran) → place < length s → budget ≤ count → tells r ≡ told count state atBudget → TakesEvents p s budget before r buffer
+  halted-budget r h q = halted r (ap (λ (n : ℕ). taking n s place) (none-left q) ∙ taking-spent s place h)
 
   -- a fault, with budget left
-  pub halted-fault : {n first : ℕ} {r : Ran} → count < budget → readEvent s place ≡ reading.refused n first → tells r ≡ told count state (atFault n first) → TakesEvents p s budget before r buffer
-  halted-fault h f = halted (ap (λ (n : ℕ). taking n s place) (some-left h) ∙ taking-fault s place fewer f)
+  pub halted-fault : {n first : ℕ} (r : Ran) → count < budget → readEvent s place ≡ reading.refused n first → tells r ≡ told count state (atFault n first) → TakesEvents p s budget before r buffer
+  halted-fault r h f = halted r (ap (λ (n : ℕ). taking n s place) (some-left h) ∙ taking-fault s place fewer f)
 
   -- the trace has ended
-  pub halted-end : {r : Ran} → length s ≤ place → tells r ≡ told count state atEnd → TakesEvents p s budget before r buffer
-  halted-end h = halted (taking-ended s place (w .left) h)
+  pub halted-end : (r : Ran) → length s ≤ place → tells r ≡ told count state atEnd → TakesEvents p s budget before r buffer
+  halted-end r h = halted r (taking-ended s place (w .left) h)
 
 -- ---- the contract: not valid, valid and without room, valid and with room
 
-module _ {p : Phy} {s : List ℕ} {budget : ℕ} {before : List ℕ} {r : Ran} where
+module _ (p : Phy) (s : List ℕ) (budget : ℕ) (before : List ℕ) (r : Ran) where
   pub not-valid : validOf p ≡ false → tells r ≡ told 0 p (refused badState) → Runs p s budget before r before
-  not-valid v t = record { says = t ∙ rw v refl; bytes = rw v refl }
+  not-valid v t = record { says = t ∙ rw v refl; leaves = rw v refl }
 
   pub no-room : validOf p ≡ true → length before < budget → tells r ≡ told 0 p (refused noRoom) → Runs p s budget before r before
   no-room v h t =
       let f : leb budget (length before) ≡ false = lt-leb budget (length before) h in
-      record { says = t ∙ rw (v, f) refl; bytes = rw (v, f) refl }
+      record { says = t ∙ rw (v, f) refl; leaves = rw (v, f) refl }
 
   pub with-room : {after : List ℕ} → validOf p ≡ true → budget ≤ length before → TakesEvents p s budget before r after → Runs p s budget before r after
   with-room v h t =
       let f : leb budget (length before) ≡ true = le-leb budget (length before) h in
-      record { says = t .says ∙ rw (v, f) refl; bytes = t .bytes ∙ rw (v, f) refl }
+      record { says = t .says ∙ rw (v, f) refl; leaves = t .leaves ∙ rw (v, f) refl }

@@ -1,10 +1,11 @@
--- What each function promises, cited by its `ensures` and, of the public one, by the theorem that two results it allows coincide.
+-- What each function promises, cited by its `ensures` and, of the public one, by `Determined` in Laws.
 use Prim.Native.Nat.{ℕ, _≤_}
 use mathlib.Core.Bool.{true}
 use mathlib.Core.List.{List}
 use mathlib.Core.Path.{_≡_}
 use lib.ListN.{length}
 use lib.Seq.{sets}
+use Rattle.table.specs.Results.{Leaves}
 use Rattle.phy.specs.State.{validOf}
 use Rattle.phy.specs.declared.Phy.{Phy}
 use Rattle.run.specs.Running.{taking, bytesOf, toldOf, runOf, bufferAfter, tells}
@@ -16,11 +17,10 @@ pub record Ready (p : Phy) (budget : ℕ) (buffer : List ℕ) : Type 0 where
   pub room : budget ≤ length buffer
 
 -- `take_events` of a phy over a trace under a budget, with the buffer `before`, which it leaves as `after`
-pub record TakesEvents (p : Phy) (s : List ℕ) (budget : ℕ) (before : List ℕ) (r : Ran) (after : List ℕ) : Type 0 where
-  pub says : tells r ≡ toldOf p (taking budget s 0)
-  pub bytes : after ≡ sets before 0 (bytesOf p (taking budget s 0 .events))
+abbrev pub TakesEvents : (p : Phy) (s : List ℕ) (budget : ℕ) (before : List ℕ) → Ran → (after : List ℕ) → Type 0
+TakesEvents p s budget before r after =
+    Leaves (tells r) (toldOf p (taking budget s 0)) after (sets before 0 (bytesOf p (taking budget s 0 .events)))
 
 -- `run` of any phy over any trace under a budget, with the buffer `before`, which it leaves as `after`
-pub record Runs (p : Phy) (s : List ℕ) (budget : ℕ) (before : List ℕ) (r : Ran) (after : List ℕ) : Type 0 where
-  pub says : tells r ≡ runOf p s budget before
-  pub bytes : after ≡ bufferAfter p s budget before
+abbrev pub Runs : (p : Phy) (s : List ℕ) (budget : ℕ) (before : List ℕ) → Ran → (after : List ℕ) → Type 0
+Runs p s budget before r after = Leaves (tells r) (runOf p s budget before) after (bufferAfter p s budget before)

@@ -1,4 +1,4 @@
--- What is promised of a run beyond its contract. Each statement is proved under its own name, in the file of proofs/ that stands beside its heading.
+-- What is promised of a run beyond its contract. A heading names the files of proofs/.
 use Prim.Native.Nat.{ℕ, _+_, _≤_, _<_}
 use mathlib.Core.Bool.{true, false}
 use mathlib.Core.List.{List, [], _∷_, _++_}
@@ -7,6 +7,7 @@ use mathlib.Core.Path.{_≡_}
 use lib.ListN.{length, take, drop}
 use Rattle.table.specs.Choice.{pick}
 use Rattle.table.specs.Refusals.{badState, badEvent, noRoom}
+use Rattle.table.specs.Results.{TellsOnce, DeterminesLent}
 use Rattle.event.specs.declared.Event.{Event}
 use Rattle.trace.specs.Reading as reading
 use Rattle.trace.specs.Reading.{readEvent}
@@ -20,28 +21,25 @@ use Rattle.phy.specs.declared.Phy.{Phy}
 use Rattle.phy_laws.specs.Waiting.{isAnswer}
 use Rattle.ledger.specs.Log.{Entry, log, accepted, answered, many}
 use Rattle.ledger.specs.Demand.{logOf, oneIfWaiting, Lawful}
-use Rattle.run.specs.Running.{Halt, atEnd, atBudget, atFault, refused, Course, taking, bytesOf, runOf, bufferAfter, tellsStop}
+use Rattle.run.specs.Running.{Halt, atEnd, atBudget, atFault, refused, Course, taking, bytesOf, runOf}
+use Rattle.run.specs.Running.{bufferAfter, tellsStop, tells}
 use Rattle.run.specs.Contracts.{Runs}
-use Rattle.run.specs.declared.Ran.{Ran}
-use Rattle.run.specs.declared.Stop.{Stop}
 
--- ---- each result says one thing (proofs/Determined)
+-- ---- the result is determined (proofs/Determined)
 
--- no two ways to stop say the same
-abbrev pub StopTellsOnce : Type 0
-StopTellsOnce = (r q : Stop) → tellsStop r ≡ tellsStop q → r ≡ q
-
--- two results that `run` may give coincide, and so do the buffers that it may leave
-abbrev pub RunDetermined : Type 0
-RunDetermined =
-    (p : Phy) (s : List ℕ) (budget : ℕ) (before : List ℕ) (r q : Ran) (after later : List ℕ)
-    → Runs p s budget before r after → Runs p s budget before q later → (r ≡ q) × (after ≡ later)
+-- each way to stop and each result say one thing; two that `run` may give coincide, as do the buffers that it leaves
+pub record Determined : Type 0 where
+  pub stop-once : TellsOnce tellsStop
+  pub ran-once : TellsOnce tells
+  pub run : (p : Phy) (s : List ℕ) (budget : ℕ) (before : List ℕ) → DeterminesLent (Runs p s budget before)
 
 -- ---- each refusal exactly when (proofs/Refusals)
 
 -- 1: the phy is not valid
 abbrev pub BadStateExactly : Type 0
-BadStateExactly = (p : Phy) (s : List ℕ) (budget : ℕ) (buffer : List ℕ) → runOf p s budget buffer .halt ≡ refused badState ↔ (validOf p ≡ false)
+BadStateExactly =
+    (p : Phy) (s : List ℕ) (budget : ℕ) (buffer : List ℕ)
+    → runOf p s budget buffer .halt ≡ refused badState ↔ (validOf p ≡ false)
 
 -- 10: the phy is valid, and the buffer is shorter than the budget
 abbrev pub NoRoomExactly : Type 0
@@ -49,7 +47,7 @@ NoRoomExactly =
     (p : Phy) (s : List ℕ) (budget : ℕ) (buffer : List ℕ)
     → runOf p s budget buffer .halt ≡ refused noRoom ↔ ((validOf p ≡ true) × (length buffer < budget))
 
--- 2, of an event: a valid phy refuses with 2 exactly what the trace's writer refuses with 2, into any buffer, so no event of a trace is so refused
+-- 2, of an event: a valid phy refuses with 2 what the trace's writer refuses with 2, and so no event that was read
 abbrev pub AsTheWriter : Type 0
 AsTheWriter =
     (p : Phy) (e : Event) (buffer : List ℕ) (place : ℕ) → validOf p ≡ true
@@ -62,15 +60,19 @@ pub record Untouched (p : Phy) (s : List ℕ) (budget : ℕ) (buffer : List ℕ)
   pub same-bytes : bufferAfter p s budget buffer ≡ buffer
 
 abbrev pub RefusedKeeps : Type 0
-RefusedKeeps = (p : Phy) (s : List ℕ) (budget : ℕ) (buffer : List ℕ) (n : ℕ) → runOf p s budget buffer .halt ≡ refused n → Untouched p s budget buffer
+RefusedKeeps =
+    (p : Phy) (s : List ℕ) (budget : ℕ) (buffer : List ℕ) (n : ℕ) → runOf p s budget buffer .halt ≡ refused n
+    → Untouched p s budget buffer
 
 -- ---- which events are taken, and how taking them stops (proofs/Stopping)
 
--- why a course stops at the place `last` once `count` events are taken: the trace has ended; else the budget is spent; else there is a fault
+-- why a course stops at `last` after `count` events: the trace has ended; else the budget is spent; else a fault
 pub data Why (s : List ℕ) (budget count last : ℕ) : Halt → Type 0 where
   ended : length s ≤ last → Why s budget count last atEnd
   spent : last < length s → count ≡ budget → Why s budget count last atBudget
-  faulty : {n : ℕ} → last < length s → count < budget → readEvent s last ≡ reading.refused n last → Why s budget count last (atFault n last)
+  faulty :
+      {n : ℕ} → last < length s → count < budget → readEvent s last ≡ reading.refused n last
+      → Why s budget count last (atFault n last)
 
 -- the events taken lead from a place to `last`, are no more than the budget, and stop there for a reason
 pub record StopsWell (s : List ℕ) (budget place : ℕ) (c : Course) : Type 0 where
@@ -84,7 +86,9 @@ StopsWellAlways = (s : List ℕ) (budget : ℕ) → StopsWell s budget 0 (taking
 
 -- a trace without fault is taken whole, if the budget lets it
 abbrev pub TakesAll : Type 0
-TakesAll = (s : List ℕ) (budget : ℕ) (es : List Event) → ReadsAll s 0 es → length es ≤ budget → taking budget s 0 ≡ record { events = es; halt = atEnd }
+TakesAll =
+    (s : List ℕ) (budget : ℕ) (es : List Event) → ReadsAll s 0 es → length es ≤ budget
+    → taking budget s 0 ≡ record { events = es; halt = atEnd }
 
 -- ---- the buffer (proofs/Written)
 
@@ -92,7 +96,9 @@ TakesAll = (s : List ℕ) (budget : ℕ) (es : List Event) → ReadsAll s 0 es �
 pub record OnlyTaken (p : Phy) (s : List ℕ) (budget : ℕ) (buffer : List ℕ) : Type 0 where
   pub few : runOf p s budget buffer .count ≤ budget
   pub long : length (bufferAfter p s budget buffer) ≡ length buffer
-  pub kept : drop (runOf p s budget buffer .count) (bufferAfter p s budget buffer) ≡ drop (runOf p s budget buffer .count) buffer
+  pub kept :
+      drop (runOf p s budget buffer .count) (bufferAfter p s budget buffer)
+      ≡ drop (runOf p s budget buffer .count) buffer
 
 abbrev pub WritesOnlyTaken : Type 0
 WritesOnlyTaken = (p : Phy) (s : List ℕ) (budget : ℕ) (buffer : List ℕ) → OnlyTaken p s budget buffer
@@ -109,7 +115,9 @@ pub record SameLonger (p : Phy) (s : List ℕ) (budget : ℕ) (buffer more : Lis
   pub bytes : bufferAfter p s budget (buffer ++ more) ≡ bufferAfter p s budget buffer ++ more
 
 abbrev pub LongerBuffer : Type 0
-LongerBuffer = (p : Phy) (s : List ℕ) (budget : ℕ) (buffer more : List ℕ) → budget ≤ length buffer → SameLonger p s budget buffer more
+LongerBuffer =
+    (p : Phy) (s : List ℕ) (budget : ℕ) (buffer more : List ℕ) → budget ≤ length buffer
+    → SameLonger p s budget buffer more
 
 -- each byte of a list is neither 1 nor 2
 abbrev pub NeitherOneNorTwo : List ℕ → Type 0
@@ -118,7 +126,8 @@ NeitherOneNorTwo (b ∷ bs) = ((b ≡ badState → ⊥) × (b ≡ badEvent → �
 
 -- no byte written is 1 or 2: the phy stays valid, and an event read is known
 abbrev pub NoOneNorTwo : Type 0
-NoOneNorTwo = (p : Phy) (s : List ℕ) (budget : ℕ) → validOf p ≡ true → NeitherOneNorTwo (bytesOf p (taking budget s 0 .events))
+NoOneNorTwo =
+    (p : Phy) (s : List ℕ) (budget : ℕ) → validOf p ≡ true → NeitherOneNorTwo (bytesOf p (taking budget s 0 .events))
 
 -- ---- the answers among the bytes (proofs/Answers)
 
@@ -136,13 +145,17 @@ answersOf (x ∷ xs) = pick (answered x) (x .result .answer ∷ answersOf xs) (a
 abbrev pub AnswersInOrder : Type 0
 AnswersInOrder = (p : Phy) (es : List Event) → answersIn (bytesOf p es) ≡ answersOf (log stepOf p es)
 
--- demand 3 holds of what a run of a fresh phy writes: accepted Opens equal the answers among the bytes plus the one, if any, still waiting
+-- demand 3 of what a run of a fresh phy writes: accepted Opens equal the answers among the bytes plus the one, if any,
+-- still waiting
 pub record LawfulRun (s : List ℕ) (budget : ℕ) (buffer : List ℕ) : Type 0 where
   pub lawful : Lawful (taking budget s 0 .events)
-  pub answers : answersIn (take (runOf freshPhy s budget buffer .count) (bufferAfter freshPhy s budget buffer)) ≡ answersOf (logOf (taking budget s 0 .events))
+  pub answers :
+      answersIn (take (runOf freshPhy s budget buffer .count) (bufferAfter freshPhy s budget buffer))
+      ≡ answersOf (logOf (taking budget s 0 .events))
   pub balance :
       many accepted (logOf (taking budget s 0 .events))
-      ≡ length (answersIn (take (runOf freshPhy s budget buffer .count) (bufferAfter freshPhy s budget buffer))) + oneIfWaiting (runOf freshPhy s budget buffer .state)
+      ≡ length (answersIn (take (runOf freshPhy s budget buffer .count) (bufferAfter freshPhy s budget buffer)))
+      + oneIfWaiting (runOf freshPhy s budget buffer .state)
 
 abbrev pub RunsLawful : Type 0
 RunsLawful = (s : List ℕ) (budget : ℕ) (buffer : List ℕ) → budget ≤ length buffer → LawfulRun s budget buffer

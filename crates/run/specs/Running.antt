@@ -18,7 +18,7 @@ use Rattle.run.specs.declared.Ran.{Ran}
 use Rattle.run.specs.declared.Stop.{Stop}
 use Rattle.run.specs.declared.Stop.the-variants.{End, Budget, BadEvent, Cut, Overlong, TooLarge, BadState, NoRoom}
 
--- how a run stops: at the trace's end, at the budget, at a trace fault with its number and place, or refused with a number before the first event
+-- how a run stops: at the trace's end, at the budget, at a fault with its number and place, or refused at the start
 pub data Halt : Type 0 where
   atEnd : Halt
   atBudget : Halt
@@ -78,11 +78,15 @@ toldOf p c = told (length (c .events)) (after stepOf p (c .events)) (c .halt)
 
 -- a run of any phy: refused with 1, then with 10 where the buffer is shorter than the budget, it takes nothing
 abbrev pub runOf : Phy → List ℕ → (budget : ℕ) → (buffer : List ℕ) → Told
-runOf p s budget buffer = pick (validOf p) (pick (leb budget (length buffer)) (toldOf p (taking budget s 0)) (told 0 p (refused noRoom))) (told 0 p (refused badState))
+runOf p s budget buffer =
+    pick (validOf p) (pick (leb budget (length buffer)) (toldOf p (taking budget s 0)) (told 0 p (refused noRoom)))
+    (told 0 p (refused badState))
 
 -- the buffer afterwards: the bytes of the events taken, then what stood there; refused, nothing is written
 abbrev pub bufferAfter : Phy → List ℕ → (budget : ℕ) → (buffer : List ℕ) → List ℕ
-bufferAfter p s budget buffer = pick (validOf p) (pick (leb budget (length buffer)) (sets buffer 0 (bytesOf p (taking budget s 0 .events))) buffer) buffer
+bufferAfter p s budget buffer =
+    pick (validOf p)
+    (pick (leb budget (length buffer)) (sets buffer 0 (bytesOf p (taking budget s 0 .events))) buffer) buffer
 
 -- what each way to stop says, as the paper numbers it
 abbrev pub tellsStop : Stop → Halt

@@ -49,6 +49,25 @@ pub parts : (a b : Bool) → a && b ≡ true → (a ≡ true) × (b ≡ true)
 parts true b e = (refl, e)
 parts false b e = absurd (false≢true e)
 
+-- tests joined one behind the other, as a definition joins them
+abbrev pub joined : Bool → List Bool → Bool
+joined first [] = first
+joined first (test ∷ tests) = joined (first && test) tests
+
+-- one of a list of tests, counted from 0
+abbrev pub one : List Bool → ℕ → Bool
+one [] i = true
+one (test ∷ tests) zero = test
+one (test ∷ tests) (suc i) = one tests i
+
+-- where tests hold together each of them does
+pub all-hold : (first : Bool) (tests : List Bool) → joined first tests ≡ true → (i : ℕ) → one (first ∷ tests) i ≡ true
+all-hold first [] e zero = e
+all-hold first [] e (suc i) = refl
+all-hold first (test ∷ tests) e zero = parts first test (all-hold (first && test) tests e 0) .0
+all-hold first (test ∷ tests) e (suc zero) = parts first test (all-hold (first && test) tests e 0) .1
+all-hold first (test ∷ tests) e (suc (suc i)) = all-hold (first && test) tests e (suc i)
+
 -- by the order of two numbers
 pub by-order : {A : Type 0} (m n : ℕ) → (m < n → A) → (n ≤ m → A) → A
 by-order m n a b = by-test (ltb m n) (λ t. a (ltb-true m n t)) (λ t. b (ltb-false m n t))

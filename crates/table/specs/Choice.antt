@@ -34,7 +34,7 @@ pub data Listed {A : Type 0} (n : ℕ) (a : A) : List (Row A) → Type 0 where
   here : {rs : List (Row A)} → Listed n a ((n ⇒ a) ∷ rs)
   later : {r : Row A} {rs : List (Row A)} → (n ≡ r .key → ⊥) → Listed n a rs → Listed n a (r ∷ rs)
 
--- n is none of the numbers of the table, in the shape in which a `match` says so, the last row outermost
+-- n is not among the table's numbers, as a `match` says it: one inequality a row, the last row's outermost
 abbrev pub OthersFrom : {A : Type 0} → Type 0 → ℕ → List (Row A) → Type 0
 OthersFrom known n [] = known
 OthersFrom known n (r ∷ rs) = OthersFrom (known × (n ≡ r .key → ⊥)) n rs

@@ -1,3 +1,4 @@
 pub mod Choice
 pub mod Flags
 pub mod Refusals
+pub mod Results

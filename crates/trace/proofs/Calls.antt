@@ -7,14 +7,15 @@ use lib.ListN.{length, take, drop, replicate, drop-of-length-le}
 use lib.Seq.{take-all}
 use denote.Ref.{RefT, now}
 use Rattle.table.proofs.Laws.{apart}
+use Rattle.event.specs.Table.{eventOf}
 use Rattle.event.specs.declared.Event.{Event}
-use Rattle.trace.specs.Reading.{Told, event, end, refused, eventOf, readEvent, eventGiven, placeReached, tells}
+use Rattle.trace.specs.Reading.{Told, event, end, refused, readEvent, eventGiven, placeReached, tells}
 use Rattle.trace.specs.Contracts.{ReadsEvent, TakesNext}
 use Rattle.trace.specs.Laws.{Passes, here, on, ReadsAll, ended, taken, Calls, uncalled, called, GivesEvents, nothing, given, FaultStays, StaysPut, FirstEvents, CalledBack}
 use Rattle.trace.specs.declared.EventRead.{EventRead}
 use Rattle.trace.specs.declared.EventRead.the-variants.{Event as Known}
 use Rattle.trace.specs.declared.Reader.{Reader}
-use Rattle.trace.proofs.Determined.{read-tells-once, read-determined, same-reader}
+use Rattle.trace.proofs.Determined.{read-once, determined}
 use Rattle.trace.proofs.Refusals.{fault-at-first}
 use Rattle.trace.proofs.Written.{all-written}
 
@@ -38,8 +39,8 @@ zero-given end n = refl
 zero-given (refused k at) n = refl
 
 -- the reader stands still
-still : {before : Reader} {r : EventRead} {after : Reader} → TakesNext before r after → NoEvent (tells r) → after ≡ before
-still {before} {r} t n = same-reader (t .holds) (t .there ∙ ap (placeReached (before .place)) (sym (t .says)) ∙ no-move (tells r) n (before .place))
+still : {before : Reader} (r : EventRead) {after : Reader} → TakesNext before r after → NoEvent (tells r) → after ≡ before
+still {before} r t n = t .leaves ∙ ap (λ (place : ℕ). record { trace = before .trace; place = place }) (ap (placeReached (before .place)) (sym (t .says)) ∙ no-move (tells r) n (before .place))
 
 pub fault-stays : FaultStays
 fault-stays before r after n at t e =
@@ -47,20 +48,20 @@ fault-stays before r after n at t e =
     record {
       first = fault-at-first (now (before .trace)) (before .place) n at (sym (t .says) ∙ e) .first;
       zeros = zero-given (tells r) none;
-      stays = still t none;
+      stays = still r t none;
     }
 
 again : {before after : Reader} (r : EventRead) (rs : List EventRead) → ReadsEvent (now (before .trace)) (before .place) r → NoEvent (tells r) → Calls before rs after
     → (rs ≡ replicate (length rs) r) × (after ≡ before)
 again r [] e n uncalled = (refl, refl)
 again {before} {after} r (q ∷ rs) e n (called t c) =
-    let same : q ≡ r = read-determined (now (before .trace)) (before .place) q r (t .says) e in
-    let more = again r rs e n (subst (λ (m : Reader). Calls m rs after) (still t (rw same n)) c) in
+    let same : q ≡ r = determined .event-at (now (before .trace)) (before .place) q r (t .says) e in
+    let more = again r rs e n (subst (λ (m : Reader). Calls m rs after) (still q t (rw same n)) c) in
     (ap₂ (λ (x : EventRead) (l : List EventRead). x ∷ l) same (more .0), more .1)
 
 pub stays-put : StaysPut
 stays-put before after r rs (called t c) n =
-    let a = again r rs (t .says) n (subst (λ (m : Reader). Calls m rs after) (still t n) c) in
+    let a = again r rs (t .says) n (subst (λ (m : Reader). Calls m rs after) (still r t n) c) in
     record { same = a .0; zeros = zero-given (tells r) n; stays = a .1 }
 
 -- ---- events
@@ -77,14 +78,13 @@ first-from :
 first-from [] p uncalled h = (nothing, p)
 first-from (r ∷ rs) here (called t c) h = absurd (omega arith)
 first-from (r ∷ rs) {start} {after} (on {e = e} {next} a p) (called t c) h =
-    let there = same-reader {q = record { trace = start .trace; place = next }} (t .holds) (t .there ∙ ap (placeReached (start .place)) a) in
+    let there : _≡_ {A = Reader} _ (record { trace = start .trace; place = next }) = rw a at (t .leaves) in
     let more = first-from rs p (subst (λ (m : Reader). Calls m rs after) there c) (omega arith) in
-    rw (read-tells-once r (Known e next) (t .says ∙ a)) (given a (more .0), more .1)
+    rw (read-once r (Known e next) (t .says ∙ a)) (given a (more .0), more .1)
 
 pub first-events : FirstEvents
 first-events trace start after es last rs new p c h =
-    let at-first = same-reader {q = record { trace = trace; place = 0 }} (new .holds) (new .first) in
-    let g = first-from rs p (subst (λ (m : Reader). Calls m rs after) at-first c) h in
+    let g = first-from rs p (subst (λ (m : Reader). Calls m rs after) new c) h in
     record { answers = g .0; events = events-of (g .0); others = g .1 }
 
 -- ---- events that were written: reading them all passes them by, to the trace's end
@@ -103,7 +103,7 @@ no-more here = refl
 
 trace-kept : {start after : Reader} {rs : List EventRead} → Calls start rs after → after .trace ≡ start .trace
 trace-kept uncalled = refl
-trace-kept (called t c) = trace-kept c ∙ t .holds
+trace-kept (called t c) = trace-kept c ∙ ap (λ (m : Reader). m .trace) (t .leaves)
 
 pub called-back : CalledBack
 called-back es before after last w trace start middle there rs r same new c long t =
@@ -111,5 +111,5 @@ called-back es before after last w trace start middle there rs r same new c long
     let p = passed back in
     let g = first-events trace start middle es (p .last) rs new (p .passes) c (omega arith) in
     let at-last : middle .place ≡ p .last = no-more (subst (λ (l : List Event). Passes (now trace) (middle .place) l (p .last)) (drop-of-length-le es {i = length rs} (omega arith)) (g .others)) in
-    let held : middle .trace ≡ trace = trace-kept c ∙ new .holds in
+    let held : middle .trace ≡ trace = trace-kept c ∙ ap (λ (m : Reader). m .trace) new in
     (g .events ∙ take-all (length rs) es (omega arith), t .says ∙ ap₂ (λ (l : RefT (List ℕ)) (n : ℕ). readEvent (now l) n) held at-last ∙ p .over)

@@ -1,21 +1,21 @@
--- Each answer says one thing, so a contract that gives what is said gives the answer.
+-- Each result says one thing, so a contract that gives what is said gives the result.
 use mathlib.Core.List.{[], _∷_}
-use mathlib.Core.Path.{_≡_, refl, sym, ap, _∙_}
-use denote.Ref.{now}
+use mathlib.Core.Path.{_≡_, refl}
 use Rattle.table.specs.Choice.{_⇒_, rows}
 use Rattle.table.specs.Refusals.{badEvent, cut, overlong}
+use Rattle.table.specs.Results.{TellsOnce}
+use Rattle.table.proofs.Results.{leads-back, by-telling, by-equation, with-lent}
 use Rattle.trace.specs.Reading.{Told, event, end, tells}
 use Rattle.trace.specs.Reading as reading
 use Rattle.trace.specs.Writing.{ToldWritten, wrote, tellsWritten}
 use Rattle.trace.specs.Writing as writing
-use Rattle.trace.specs.Laws.{ReadTellsOnce, WrittenTellsOnce, ReadDetermined, PlaceDetermined, WriteDetermined, StartDetermined, NextDetermined}
+use Rattle.trace.specs.Laws.{Determined}
 use Rattle.trace.specs.declared.EventRead.{EventRead}
 use Rattle.trace.specs.declared.EventRead.the-variants as read
 use Rattle.trace.specs.declared.EventWritten.{EventWritten}
 use Rattle.trace.specs.declared.EventWritten.the-variants as written
-use Rattle.trace.specs.declared.Reader.{Reader}
 
--- what is said tells which answer said it
+-- what is said tells which result said it
 answer : Told → EventRead
 answer (event e next) = read.Event e next
 answer end = read.End
@@ -30,8 +30,8 @@ answers (read.Cut first) = refl
 answers (read.Overlong first) = refl
 answers (read.TooLarge first) = refl
 
-pub read-tells-once : ReadTellsOnce
-read-tells-once r q e = sym (answers r) ∙ ap answer e ∙ answers q
+pub read-once : TellsOnce tells
+read-once = leads-back answer answers
 
 answer-written : ToldWritten → EventWritten
 answer-written (wrote n) = written.Length n
@@ -43,27 +43,17 @@ answers-written (written.Length n) = refl
 answers-written written.BadEvent = refl
 answers-written written.NoRoom = refl
 
-pub written-tells-once : WrittenTellsOnce
-written-tells-once r q e = sym (answers-written r) ∙ ap answer-written e ∙ answers-written q
+pub written-once : TellsOnce tellsWritten
+written-once = leads-back answer-written answers-written
 
-pub read-determined : ReadDetermined
-read-determined s place r q a b = read-tells-once r q (a ∙ sym b)
-
-pub place-determined : PlaceDetermined
-place-determined read place r q a b = a ∙ sym b
-
-pub write-determined : WriteDetermined
-write-determined e before place r q after later a b = (written-tells-once r q (a .says ∙ sym (b .says)), a .bytes ∙ sym (b .bytes))
-
--- a reader is what it holds and its place
-pub same-reader : {r q : Reader} → r .trace ≡ q .trace → r .place ≡ q .place → r ≡ q
-same-reader a b = λ i. record { trace = a i; place = b i }
-
-pub start-determined : StartDetermined
-start-determined trace r q a b = same-reader (a .holds ∙ sym (b .holds)) (a .first ∙ sym (b .first))
-
-pub next-determined : NextDetermined
-next-determined before r q after later a b = (
-  read-determined (now (before .trace)) (before .place) r q (a .says) (b .says),
-  same-reader (a .holds ∙ sym (b .holds)) (a .there ∙ sym (b .there)),
-)
+pub determined : Determined
+determined =
+    record {
+      read-once = read-once;
+      written-once = written-once;
+      event-at = λ s place. by-telling read-once _;
+      place-reached = λ read place. by-equation _;
+      write-event = λ e before place. with-lent written-once _ _;
+      new = λ trace. by-equation _;
+      next = λ before. with-lent read-once _ _;
+    }

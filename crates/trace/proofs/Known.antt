@@ -10,10 +10,9 @@ use lib.Dec.{eqb, leb}
 use lib.ListN.{length, getD, List·getD-eq-default}
 use Rattle.table.proofs.Laws.{by-test}
 use Rattle.event.specs.Names.{txOpen, openReceived, openRejectReceived, phyDisabled}
-use Rattle.event.specs.Table.{_to_, argumentsOf, argumentCount, rangeAt, argumentRange, within, codeKnown, argumentsKnown, knownOf}
+use Rattle.event.specs.Table.{eventOf, _to_, argumentsOf, argumentCount, rangeAt, argumentRange, within, codeKnown, argumentsKnown, knownOf}
 use Rattle.event.specs.declared.Event.{Event}
 use Rattle.event.specs.declared.Range.{Range}
-use Rattle.trace.specs.Reading.{eventOf}
 use Rattle.trace.specs.Writing.{allNumbers}
 
 both : (a b : Bool) → (a && b) ≡ true → (a ≡ true) × (b ≡ true)

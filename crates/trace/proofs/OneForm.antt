@@ -8,10 +8,9 @@ use lib.Seq.{ext-getD, getD-take, length-take-le}
 use Rattle.number.specs.Writing.{numberBytes}
 use Rattle.number.specs.Laws.{Bytes}
 use Rattle.number.proofs.OneForm as number
-use Rattle.event.specs.Table.{argumentsOf}
+use Rattle.event.specs.Table.{eventOf, argumentsOf}
 use Rattle.event.specs.declared.Event.{Event}
 use Rattle.event.specs.declared.Range.{Range}
-use Rattle.trace.specs.Reading.{eventOf}
 use Rattle.trace.specs.Writing.{bytesOf, eventBytes, traceBytes}
 use Rattle.trace.specs.Laws.{ArgumentsStand, none, one, ReadsAll, ended, taken, OneForm, TraceOneForm, SameBytes}
 use Rattle.trace.proofs.Known.{sixOf, at-most-six}

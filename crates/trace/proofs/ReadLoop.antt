@@ -10,9 +10,9 @@ use lib.Seq.{drop-cons, append-snoc, take-suc-set, getD-set-other}
 use Rattle.table.specs.Refusals.{badEvent}
 use Rattle.number.specs.Reading.{value, readNumber}
 use Rattle.number.specs.Reading as number
-use Rattle.event.specs.Table.{_to_, argumentsOf, argumentCount, argumentRange, within}
+use Rattle.event.specs.Table.{eventOf, _to_, argumentsOf, argumentCount, argumentRange, within}
 use Rattle.event.specs.declared.Event.{Event}
-use Rattle.trace.specs.Reading.{Got, got, fault, onwards, inRange, arguments, eventOf, afterCode}
+use Rattle.trace.specs.Reading.{Got, got, fault, onwards, inRange, arguments, afterCode}
 use Rattle.trace.proofs.Known.{six-arguments}
 
 -- ---- values of which the last ones are zero

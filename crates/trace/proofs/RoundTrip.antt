@@ -11,10 +11,10 @@ use lib.Seq.{sets, sets-eq, take-at, length-take-le}
 use Rattle.table.proofs.Laws.{apart}
 use Rattle.table.proofs.Stores.{stored-from}
 use Rattle.number.specs.Writing.{numberBytes}
-use Rattle.event.specs.Table.{argumentsOf, argumentCount, knownOf}
+use Rattle.event.specs.Table.{eventOf, argumentsOf, argumentCount, knownOf}
 use Rattle.event.specs.declared.Event.{Event}
 use Rattle.event.specs.declared.Range.{Range}
-use Rattle.trace.specs.Reading.{event, end, got, arguments, eventOf, readEvent}
+use Rattle.trace.specs.Reading.{event, end, got, arguments, readEvent}
 use Rattle.trace.specs.Writing.{wrote, bytesOf, eventBytes, traceBytes, writeEvent, bufferAfter}
 use Rattle.trace.specs.Laws.{ReadBack, OthersKept, ReadsAll, ended, taken, AllKnown, TraceBack, ReadsOnce}
 use Rattle.trace.proofs.Known.{AllWithin, sixOf, is-known, numbers-small, lacks, small, at-most-six}

@@ -8,9 +8,9 @@ use Rattle.table.specs.Refusals.{badEvent}
 use Rattle.table.proofs.Laws.{by-test, by-order}
 use Rattle.number.specs.Reading.{value, readNumber}
 use Rattle.number.specs.Reading as number
-use Rattle.event.specs.Table.{argumentsOf, within, codeKnown, codes}
+use Rattle.event.specs.Table.{eventOf, argumentsOf, within, codeKnown, codes}
 use Rattle.event.specs.declared.Range.{Range}
-use Rattle.trace.specs.Reading.{Told, event, end, refused, Got, got, fault, onwards, arguments, eventOf, readEvent, said}
+use Rattle.trace.specs.Reading.{Told, event, end, refused, Got, got, fault, onwards, arguments, readEvent, said}
 use Rattle.trace.specs.Laws.{ArgumentsStand, none, one, Stands, Reaches, Comes}
 use Rattle.trace.proofs.First.{at-end, code-fault, code-bad, code-good}
 

@@ -106,7 +106,7 @@ module _ {count : ℕ} {numbers before : List ℕ} {place : ℕ} {buffer : List 
       filling-length = let e = written in cc
 
       stored : after ≡ sets buffer at (numberBytes (getD numbers i 0))
-      stored = rw fit at (c .bytes)
+      stored = rw fit at (c .leaves)
 
       longer : length after ≡ length buffer
       longer = ap length stored ∙ length-sets buffer at (numberBytes (getD numbers i 0))
@@ -128,17 +128,17 @@ module _ {count : ℕ} {numbers before : List ℕ} {place : ℕ} {buffer : List 
 
 -- ---- the contract: not known, known and without room, known and with room
 
-pub not-known : {e : Event} {before : List ℕ} {place : ℕ} → knownOf e ≡ false → WritesEvent e before place BadEvent before
-not-known k = record { says = rw k refl; bytes = rw k refl }
+pub not-known : (e : Event) (before : List ℕ) (place : ℕ) → knownOf e ≡ false → WritesEvent e before place BadEvent before
+not-known e before place k = record { says = rw k refl; leaves = rw k refl }
 
-module _ {e : Event} {before : List ℕ} {place : ℕ} (k : knownOf e ≡ true) where
+module _ (e : Event) (before : List ℕ) (place : ℕ) (k : knownOf e ≡ true) where
   pub no-room : length before < place + length (eventBytes e) → WritesEvent e before place NoRoom before
   no-room h =
       let f : fits e before place ≡ false = lt-leb (place + length (eventBytes e)) (length before) h in
-      record { says = rw (k, f) refl; bytes = rw (k, f) refl }
+      record { says = rw (k, f) refl; leaves = rw (k, f) refl }
 
   pub with-room : {n : ℕ} {after : List ℕ} → place + length (eventBytes e) ≤ length before → n ≡ length (eventBytes e) → after ≡ sets before place (eventBytes e)
       → WritesEvent e before place (Length n) after
   with-room h l b =
       let f : fits e before place ≡ true = le-leb (place + length (eventBytes e)) (length before) h in
-      record { says = rw (k, f) (ap wrote l); bytes = rw (k, f) b }
+      record { says = rw (k, f) (ap wrote l); leaves = rw (k, f) b }

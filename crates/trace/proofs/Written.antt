@@ -22,9 +22,9 @@ record Stored (before : List ℕ) (place : ℕ) (es : List Event) (after : List 
   pub far : last ≡ place + length (traceBytes es)
   pub room : last ≤ length before
 
-module _ {e : Event} {before middle : List ℕ} {place n : ℕ} (c : WritesEvent e before place (Length n) middle) where
+module _ (e : Event) (before middle : List ℕ) (place n : ℕ) (c : WritesEvent e before place (Length n) middle) where
   stored-one : middle ≡ sets before place (eventBytes e)
-  stored-one = c .bytes ∙ fitted e before place n (sym (c .says)) .left
+  stored-one = c .leaves ∙ fitted e before place n (sym (c .says)) .left
 
   same-length : length middle ≡ length before
   same-length = ap length stored-one ∙ length-sets before place (eventBytes e)
@@ -46,7 +46,8 @@ module _ {e : Event} {before middle : List ℕ} {place n : ℕ} (c : WritesEvent
 stored : {before : List ℕ} {place : ℕ} {es : List Event} {after : List ℕ} {last : ℕ} → place ≤ length before → WritesAll before place es after last → Stored before place es after last
 unfolding traceBytes
 stored h done = record { known = tt; bytes = refl; far = omega arith; room = h }
-stored h (put c cs) = stored-more c (stored (still-room c) cs)
+stored h (put {e} {before = before} {middle} {place = place} {n} c cs) =
+    stored-more e before middle place n c (stored (still-room e before middle place n c) cs)
 
 -- ---- what they leave
 
@@ -71,7 +72,7 @@ writable [] before place k h = record { after = before; last = place; calls = do
 writable (e ∷ es) before place k h =
     let room : place + (length (eventBytes e) + length (traceBytes es)) ≤ length before = simp length-append at h in
     let more = writable es (sets before place (eventBytes e)) (place + length (eventBytes e)) (k .1) (omega (arith, length-sets before place (eventBytes e))) in
-    record { after = more .after; last = more .last; calls = put {before = before} {place = place} (with-room (k .0) (omega arith) refl refl) (more .calls) }
+    record { after = more .after; last = more .last; calls = put {before = before} {place = place} (with-room e before place (k .0) (omega arith) refl refl) (more .calls) }
 
 pub writable-exactly : WritableExactly
 writable-exactly es before place h = (

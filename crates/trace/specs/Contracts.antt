@@ -1,4 +1,4 @@
--- What each function promises, cited by its `ensures` and, of the public ones, by the theorem that two results it allows coincide.
+-- What each function promises, cited by its `ensures` and, of the public ones, by `Determined` in Laws.
 use Prim.Native.Nat.{ℕ, _+_, _≤_}
 use mathlib.Core.Bool.{true}
 use mathlib.Core.List.{List}
@@ -6,9 +6,10 @@ use mathlib.Core.Path.{_≡_}
 use lib.ListN.{length}
 use lib.Seq.{sets}
 use denote.Ref.{RefT, now}
+use Rattle.table.specs.Results.{Leaves}
 use Rattle.event.specs.Table.{knownOf}
 use Rattle.event.specs.declared.Event.{Event}
-use Rattle.trace.specs.Reading.{afterCode, said, readEvent, placeReached, tells}
+use Rattle.trace.specs.Reading.{Told, afterCode, said, readEvent, placeReached, tells}
 use Rattle.trace.specs.Writing.{eventBytes, writeEvent, bufferAfter, tellsWritten}
 use Rattle.trace.specs.declared.EventRead.{EventRead}
 use Rattle.trace.specs.declared.EventWritten.{EventWritten}
@@ -22,7 +23,7 @@ ReadsArguments s code place first r = tells r ≡ said first (afterCode code s p
 abbrev pub ReadsEvent : List ℕ → ℕ → EventRead → Type 0
 ReadsEvent s place r = tells r ≡ readEvent s place
 
--- `place_reached` of an answer got at a place
+-- `place_reached` of a result got at a place
 abbrev pub ReachesPlace : EventRead → ℕ → ℕ → Type 0
 ReachesPlace read place r = r ≡ placeReached place (tells read)
 
@@ -36,17 +37,19 @@ abbrev pub FillsBuffer : Event → List ℕ → ℕ → List ℕ → Type 0
 FillsBuffer e before place after = after ≡ sets before place (eventBytes e)
 
 -- `write_event` of an event into the buffer `before` at a place, which leaves it as `after`
-pub record WritesEvent (e : Event) (before : List ℕ) (place : ℕ) (r : EventWritten) (after : List ℕ) : Type 0 where
-  pub says : tellsWritten r ≡ writeEvent e before place
-  pub bytes : after ≡ bufferAfter e before place
+abbrev pub WritesEvent : (e : Event) (before : List ℕ) (place : ℕ) → EventWritten → (after : List ℕ) → Type 0
+WritesEvent e before place r after =
+    Leaves (tellsWritten r) (writeEvent e before place) after (bufferAfter e before place)
 
 -- `new` of a trace: a reader that holds it, at its first byte
-pub record StartsReader (trace : RefT (List ℕ)) (r : Reader) : Type 0 where
-  pub holds : r .trace ≡ trace
-  pub first : r .place ≡ 0
+abbrev pub StartsReader : (trace : RefT (List ℕ)) → Reader → Type 0
+StartsReader trace r = r ≡ record { trace = trace; place = 0 }
+
+-- the reader gives what is told, keeps its trace, and stands at the place that this reaches
+abbrev pub TakesAt : (before : Reader) → Told → EventRead → (after : Reader) → Type 0
+TakesAt before told r after =
+    Leaves (tells r) told after (record { trace = before .trace; place = placeReached (before .place) told })
 
 -- `next` of the reader `before`, which leaves it as `after`: what stands at its place, and the place reached
-pub record TakesNext (before : Reader) (r : EventRead) (after : Reader) : Type 0 where
-  pub says : ReadsEvent (now (before .trace)) (before .place) r
-  pub holds : after .trace ≡ before .trace
-  pub there : after .place ≡ placeReached (before .place) (readEvent (now (before .trace)) (before .place))
+abbrev pub TakesNext : (before : Reader) → EventRead → (after : Reader) → Type 0
+TakesNext before r after = TakesAt before (readEvent (now (before .trace)) (before .place)) r after

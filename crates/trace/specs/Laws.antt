@@ -1,4 +1,4 @@
--- What is promised of events of a trace beyond the contracts. Each statement is proved under its own name, in the file of proofs/ that stands beside its heading.
+-- What is promised of events of a trace beyond the contracts. A heading names the files of proofs/.
 use Prim.Native.Nat.{ℕ, _+_, _≤_, _<_}
 use mathlib.Core.Bool.{true, false}
 use mathlib.Core.List.{List, [], _∷_, _++_, map}
@@ -8,67 +8,48 @@ use lib.ListN.{length, take, drop, replicate}
 use lib.Seq.{sets}
 use denote.Ref.{RefT, now}
 use Rattle.table.specs.Refusals.{badEvent, cut, overlong, tooLarge, noRoom}
+use Rattle.table.specs.Results.{TellsOnce, Determines, DeterminesLent}
 use Rattle.number.specs.Reading.{value, readNumber}
 use Rattle.number.specs.Laws.{EndsEarly, EndsInZero, TenthTooLarge, Bytes}
-use Rattle.event.specs.Table.{argumentsOf, within, codeKnown, knownOf, codes}
+use Rattle.event.specs.Table.{eventOf, argumentsOf, within, codeKnown, knownOf, codes}
 use Rattle.event.specs.declared.Event.{Event}
 use Rattle.event.specs.declared.Range.{Range}
-use Rattle.trace.specs.Reading.{event, end, eventOf, readEvent, eventGiven, placeReached, tells}
+use Rattle.trace.specs.Reading.{event, end, readEvent, eventGiven, placeReached, tells}
 use Rattle.trace.specs.Reading as reading
 use Rattle.trace.specs.Writing.{wrote, eventBytes, traceBytes, writeEvent, bufferAfter, lengthGiven, tellsWritten}
 use Rattle.trace.specs.Writing as writing
 use Rattle.trace.specs.Contracts.{ReadsEvent, ReachesPlace, WritesEvent, StartsReader, TakesNext}
 use Rattle.trace.specs.declared.EventRead.{EventRead}
 use Rattle.trace.specs.declared.EventRead.the-variants.{Event as Known}
-use Rattle.trace.specs.declared.EventWritten.{EventWritten}
 use Rattle.trace.specs.declared.EventWritten.the-variants.{Length}
 use Rattle.trace.specs.declared.Reader.{Reader}
 
--- ---- each answer says one thing (proofs/Determined)
+-- ---- results are determined (proofs/Determined)
 
--- no two answers of the reader say the same
-abbrev pub ReadTellsOnce : Type 0
-ReadTellsOnce = (r q : EventRead) → tells r ≡ tells q → r ≡ q
-
--- no two answers of the writer say the same
-abbrev pub WrittenTellsOnce : Type 0
-WrittenTellsOnce = (r q : EventWritten) → tellsWritten r ≡ tellsWritten q → r ≡ q
-
--- two results that `event_at` may give coincide
-abbrev pub ReadDetermined : Type 0
-ReadDetermined = (s : List ℕ) (place : ℕ) (r q : EventRead) → ReadsEvent s place r → ReadsEvent s place q → r ≡ q
-
--- two results that `place_reached` may give coincide
-abbrev pub PlaceDetermined : Type 0
-PlaceDetermined = (read : EventRead) (place r q : ℕ) → ReachesPlace read place r → ReachesPlace read place q → r ≡ q
-
--- two results that `write_event` may give coincide, and so do the buffers that it may leave
-abbrev pub WriteDetermined : Type 0
-WriteDetermined =
-    (e : Event) (before : List ℕ) (place : ℕ) (r q : EventWritten) (after later : List ℕ)
-    → WritesEvent e before place r after → WritesEvent e before place q later → (r ≡ q) × (after ≡ later)
-
--- two readers that `new` may make of a trace coincide
-abbrev pub StartDetermined : Type 0
-StartDetermined = (trace : RefT (List ℕ)) (r q : Reader) → StartsReader trace r → StartsReader trace q → r ≡ q
-
--- two results that `next` may give coincide, and so do the readers that it may leave
-abbrev pub NextDetermined : Type 0
-NextDetermined =
-    (before : Reader) (r q : EventRead) (after later : Reader)
-    → TakesNext before r after → TakesNext before q later → (r ≡ q) × (after ≡ later)
+-- each result says one thing; two that a function may give coincide, as do the buffers and readers that it leaves
+pub record Determined : Type 0 where
+  pub read-once : TellsOnce tells
+  pub written-once : TellsOnce tellsWritten
+  pub event-at : (s : List ℕ) (place : ℕ) → Determines (ReadsEvent s place)
+  pub place-reached : (read : EventRead) (place : ℕ) → Determines (ReachesPlace read place)
+  pub write-event : (e : Event) (before : List ℕ) (place : ℕ) → DeterminesLent (WritesEvent e before place)
+  pub new : (trace : RefT (List ℕ)) → Determines (StartsReader trace)
+  pub next : (before : Reader) → DeterminesLent (TakesNext before)
 
 -- ---- one event (proofs/RoundTrip, proofs/Accepted)
 
 -- what is written at a place is read back there to the same event and the place after it
 abbrev pub ReadBack : Type 0
-ReadBack = (e : Event) (buffer : List ℕ) (place n : ℕ) → writeEvent e buffer place ≡ wrote n → readEvent (bufferAfter e buffer place) place ≡ event e (place + n)
+ReadBack =
+    (e : Event) (buffer : List ℕ) (place n : ℕ) → writeEvent e buffer place ≡ wrote n
+    → readEvent (bufferAfter e buffer place) place ≡ event e (place + n)
 
 -- bytes before the place and after what is written keep their values
 abbrev pub OthersKept : Type 0
 OthersKept =
     (e : Event) (buffer : List ℕ) (place n : ℕ) → writeEvent e buffer place ≡ wrote n
-    → (take place (bufferAfter e buffer place) ≡ take place buffer) × (drop (place + n) (bufferAfter e buffer place) ≡ drop (place + n) buffer)
+    → (take place (bufferAfter e buffer place) ≡ take place buffer)
+    × (drop (place + n) (bufferAfter e buffer place) ≡ drop (place + n) buffer)
 
 -- numbers vs, each read and in its range, stand end to end from a place on; `next` is the place after the last
 pub data ArgumentsStand (s : List ℕ) : List Range → ℕ → List ℕ → ℕ → Type 0 where
@@ -91,7 +72,8 @@ pub record Stands (s : List ℕ) (place : ℕ) (e : Event) (next : ℕ) : Type 0
 
 -- an event is read exactly where it stands
 abbrev pub EventExactly : Type 0
-EventExactly = (s : List ℕ) (place : ℕ) (e : Event) (next : ℕ) → readEvent s place ≡ event e next ↔ Stands s place e next
+EventExactly =
+    (s : List ℕ) (place : ℕ) (e : Event) (next : ℕ) → readEvent s place ≡ event e next ↔ Stands s place e next
 
 -- an event read is one that `known` accepts
 abbrev pub ReadKnown : Type 0
@@ -113,40 +95,44 @@ ReadMovesOn = (s : List ℕ) (place : ℕ) (e : Event) (next : ℕ) → readEven
 
 -- ---- each refusal of the reader exactly when (proofs/Refusals)
 
--- reading numbers of these ranges from a place on comes to the number at `at`, of the range `range`: those before it are read and in theirs
+-- reading a number of each range in turn reaches the one at `at`; those before it lie in their ranges
 pub data Reaches (s : List ℕ) : List Range → ℕ → Range → ℕ → Type 0 where
   here : {range : Range} {ranges : List Range} {place : ℕ} → Reaches s (range ∷ ranges) place range place
   later :
       {first : Range} {ranges : List Range} {place v next : ℕ} {range : Range} {at : ℕ}
-      → readNumber s place ≡ value v next → within first v ≡ true → Reaches s ranges next range at → Reaches s (first ∷ ranges) place range at
+      → readNumber s place ≡ value v next → within first v ≡ true → Reaches s ranges next range at
+      → Reaches s (first ∷ ranges) place range at
 
--- reading the event at a place comes to the number at `at`, of the range `range`: its code, or an argument of a known code
+-- reading an event reaches the number at `at`, of the range `range`: its code, or an argument of a known code
 pub data Comes (s : List ℕ) (place : ℕ) : Range → ℕ → Type 0 where
   code : place < length s → Comes s place codes place
   argument :
       {code next : ℕ} {range : Range} {at : ℕ}
-      → place < length s → readNumber s place ≡ value code next → codeKnown code ≡ true → Reaches s (argumentsOf code) next range at → Comes s place range at
+      → place < length s → readNumber s place ≡ value code next → codeKnown code ≡ true
+      → Reaches s (argumentsOf code) next range at → Comes s place range at
 
--- a number that is come to and its bytes from there on
+-- a number that the reader reaches, with a fault in its bytes
 pub record Faulty (s : List ℕ) (place : ℕ) (fault : List ℕ → Type 0) : Type 0 where
   pub range : Range
   pub at : ℕ
   pub comes : Comes s place range at
   pub why : fault (drop at s)
 
--- 7: a number that is come to ends too early
+-- 7: a number that the reader reaches ends too early
 abbrev pub CutExactly : Type 0
 CutExactly = (s : List ℕ) (place : ℕ) → readEvent s place ≡ reading.refused cut place ↔ Faulty s place EndsEarly
 
--- 8: a number that is come to is not in its shortest form
+-- 8: a number that the reader reaches is not in its shortest form
 abbrev pub OverlongExactly : Type 0
-OverlongExactly = (s : List ℕ) (place : ℕ) → readEvent s place ≡ reading.refused overlong place ↔ Faulty s place EndsInZero
+OverlongExactly =
+    (s : List ℕ) (place : ℕ) → readEvent s place ≡ reading.refused overlong place ↔ Faulty s place EndsInZero
 
--- 9: a number that is come to is 2^64 or more
+-- 9: a number that the reader reaches is 2^64 or more
 abbrev pub TooLargeExactly : Type 0
-TooLargeExactly = (s : List ℕ) (place : ℕ) → readEvent s place ≡ reading.refused tooLarge place ↔ Faulty s place TenthTooLarge
+TooLargeExactly =
+    (s : List ℕ) (place : ℕ) → readEvent s place ≡ reading.refused tooLarge place ↔ Faulty s place TenthTooLarge
 
--- 2: a number that is come to is read and lies out of its range
+-- 2: a number that the reader reaches is read and lies out of its range
 pub record OutOfRange (s : List ℕ) (place : ℕ) : Type 0 where
   pub range : Range
   pub at : ℕ
@@ -182,13 +168,16 @@ EndExactly = (s : List ℕ) (place : ℕ) → readEvent s place ≡ end ↔ (len
 
 -- 2: the event is not known
 abbrev pub WriterBadEventExactly : Type 0
-WriterBadEventExactly = (e : Event) (buffer : List ℕ) (place : ℕ) → writeEvent e buffer place ≡ writing.refused badEvent ↔ (knownOf e ≡ false)
+WriterBadEventExactly =
+    (e : Event) (buffer : List ℕ) (place : ℕ)
+    → writeEvent e buffer place ≡ writing.refused badEvent ↔ (knownOf e ≡ false)
 
 -- 10: the event is known, and its bytes do not fit between the place and the buffer's end
 abbrev pub NoRoomExactly : Type 0
 NoRoomExactly =
     (e : Event) (buffer : List ℕ) (place : ℕ)
-    → writeEvent e buffer place ≡ writing.refused noRoom ↔ ((knownOf e ≡ true) × (length buffer < place + length (eventBytes e)))
+    → writeEvent e buffer place ≡ writing.refused noRoom
+    ↔ ((knownOf e ≡ true) × (length buffer < place + length (eventBytes e)))
 
 -- refused, the length is 0 and the buffer is as it was
 abbrev pub RefusedKeeps : Type 0
@@ -208,7 +197,9 @@ pub data Passes (s : List ℕ) : ℕ → List Event → ℕ → Type 0 where
 -- reading on from a place gives these events and then the trace's end, with no fault
 pub data ReadsAll (s : List ℕ) : ℕ → List Event → Type 0 where
   ended : {place : ℕ} → readEvent s place ≡ end → ReadsAll s place []
-  taken : {place : ℕ} {e : Event} {next : ℕ} {es : List Event} → readEvent s place ≡ event e next → ReadsAll s next es → ReadsAll s place (e ∷ es)
+  taken :
+      {place : ℕ} {e : Event} {next : ℕ} {es : List Event} → readEvent s place ≡ event e next → ReadsAll s next es
+      → ReadsAll s place (e ∷ es)
 
 -- each event is known
 abbrev pub AllKnown : List Event → Type 0
@@ -274,14 +265,14 @@ FaultStays =
     (before : Reader) (r : EventRead) (after : Reader) (n at : ℕ)
     → TakesNext before r after → tells r ≡ reading.refused n at → KeptAtFault before r at after
 
--- calls of `next`, one after the other, take a reader to another; their answers are listed
+-- calls of `next`, one after the other, take a reader to another; their results are listed
 pub data Calls : Reader → List EventRead → Reader → Type 0 where
   uncalled : {reader : Reader} → Calls reader [] reader
   called :
       {before middle after : Reader} {r : EventRead} {rs : List EventRead}
       → TakesNext before r middle → Calls middle rs after → Calls before (r ∷ rs) after
 
--- each later answer is the same, its event is zero, and the reader is as it was
+-- each later result is the same, its event is zero, and the reader is as it was
 pub record Stopped (before : Reader) (r : EventRead) (rs : List EventRead) (after : Reader) : Type 0 where
   pub same : rs ≡ replicate (length rs) r
   pub zeros : eventGiven (tells r) ≡ eventOf 0 []
@@ -293,7 +284,7 @@ StaysPut =
     (before after : Reader) (r : EventRead) (rs : List EventRead)
     → Calls before (r ∷ rs) after → ((e : Event) (next : ℕ) → tells r ≡ event e next → ⊥) → Stopped before r rs after
 
--- the answers are events read end to end from a place on, each with the place after it; the last place is `last`
+-- the results are events read end to end from a place on, each with the place after it; the last place is `last`
 pub data GivesEvents (s : List ℕ) : ℕ → List EventRead → List Event → ℕ → Type 0 where
   nothing : {place : ℕ} → GivesEvents s place [] [] place
   given :
@@ -301,7 +292,7 @@ pub data GivesEvents (s : List ℕ) : ℕ → List EventRead → List Event → 
       → readEvent s place ≡ event e next → GivesEvents s next rs es last
       → GivesEvents s place (Known e next ∷ rs) (e ∷ es) last
 
--- k answers are the first k events of a list, and the others stand from the reader's place on
+-- k results are the first k events of a list, and the others stand from the reader's place on
 pub record FirstGiven (s : List ℕ) (es : List Event) (last : ℕ) (rs : List EventRead) (after : Reader) : Type 0 where
   pub answers : GivesEvents s 0 rs (take (length rs) es) (after .place)
   pub events : map (λ r. eventGiven (tells r)) rs ≡ take (length rs) es
@@ -314,19 +305,22 @@ FirstEvents =
     → StartsReader trace start → Passes (now trace) 0 es last → Calls start rs after → length rs ≤ length es
     → FirstGiven (now trace) es last rs after
 
--- what calls of `write_event` wrote into a buffer from its start on, as many calls of a new reader give back, and the next one the trace's end
+-- what calls of `write_event` wrote from a buffer's start on, as many calls of a new reader give back, and then the end
 abbrev pub CalledBack : Type 0
 CalledBack =
     (es : List Event) (before after : List ℕ) (last : ℕ) → WritesAll before 0 es after last
     → (trace : RefT (List ℕ)) (start middle there : Reader) (rs : List EventRead) (r : EventRead)
-    → now trace ≡ take last after → StartsReader trace start → Calls start rs middle → length rs ≡ length es → TakesNext middle r there
+    → now trace ≡ take last after → StartsReader trace start → Calls start rs middle → length rs ≡ length es
+    → TakesNext middle r there
     → (map (λ q. eventGiven (tells q)) rs ≡ es) × (tells r ≡ end)
 
--- ---- one form for each event (proofs/OneForm, which nothing else cites: padded numbers will remove it)
+-- ---- one form for each event (proofs/OneForm)
 
 -- an event read stands there byte for byte as it is written, before what follows it
 abbrev pub OneForm : Type 0
-OneForm = (s : List ℕ) (place : ℕ) (e : Event) (next : ℕ) → Bytes s → readEvent s place ≡ event e next → drop place s ≡ eventBytes e ++ drop next s
+OneForm =
+    (s : List ℕ) (place : ℕ) (e : Event) (next : ℕ) → Bytes s → readEvent s place ≡ event e next
+    → drop place s ≡ eventBytes e ++ drop next s
 
 -- a trace read to its end without fault is the writing of the events read
 abbrev pub TraceOneForm : Type 0

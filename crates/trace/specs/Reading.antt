@@ -2,18 +2,18 @@
 use Prim.Native.Nat.{ℕ}
 use mathlib.Core.List.{List, [], _∷_}
 use lib.Dec.{leb}
-use lib.ListN.{length, getD}
+use lib.ListN.{length}
 use Rattle.table.specs.Choice.{pick}
 use Rattle.table.specs.Refusals.{badEvent, cut, overlong, tooLarge}
 use Rattle.number.specs.Reading.{value, readNumber}
 use Rattle.number.specs.Reading as number
-use Rattle.event.specs.Table.{argumentsOf, within, codes}
+use Rattle.event.specs.Table.{eventOf, argumentsOf, within, codes}
 use Rattle.event.specs.declared.Event.{Event}
 use Rattle.event.specs.declared.Range.{Range}
 use Rattle.trace.specs.declared.EventRead.{EventRead}
 use Rattle.trace.specs.declared.EventRead.the-variants.{Event as Known, End, BadEvent, Cut, Overlong, TooLarge}
 
--- what reading an event says: the event and the place after it, that the trace has ended, or the number of a refusal and the place of the event's first byte
+-- what reading says: an event and the place after it, the trace's end, or a refusal and where its event starts
 pub data Told : Type 0 where
   event : Event → ℕ → Told
   end : Told
@@ -36,16 +36,14 @@ ofNumber (number.refused n) = fault n
 
 -- a number of a range, at a place
 abbrev pub inRange : Range → List ℕ → ℕ → Got ℕ
-inRange range s place = onwards (ofNumber (readNumber s place)) λ v next. pick (within range v) (got v next) (fault badEvent)
+inRange range s place =
+    onwards (ofNumber (readNumber s place)) λ v next. pick (within range v) (got v next) (fault badEvent)
 
 -- numbers end to end from a place on, one of each range
 unfoldable pub arguments : List Range → List ℕ → ℕ → Got (List ℕ)
 arguments [] s place = got [] place
-arguments (range ∷ ranges) s place = onwards (inRange range s place) λ v next. onwards (arguments ranges s next) λ vs after. got (v ∷ vs) after
-
--- the event of a code and of the arguments that it has; those that it lacks are zero
-abbrev pub eventOf : ℕ → List ℕ → Event
-eventOf code vs = record { code = code; first = getD vs 0 0; second = getD vs 1 0; third = getD vs 2 0; fourth = getD vs 3 0; fifth = getD vs 4 0; sixth = getD vs 5 0 }
+arguments (range ∷ ranges) s place =
+    onwards (inRange range s place) λ v next. onwards (arguments ranges s next) λ vs after. got (v ∷ vs) after
 
 -- the event of a code whose arguments start at a place
 abbrev pub afterCode : ℕ → List ℕ → ℕ → Got Event
@@ -76,7 +74,7 @@ placeReached place (event e next) = next
 placeReached place end = place
 placeReached place (refused n at) = place
 
--- what each answer says, as the paper numbers it
+-- what each result says, as the paper numbers it
 abbrev pub tells : EventRead → Told
 tells (Known e next) = event e next
 tells End = end

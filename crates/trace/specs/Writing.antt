@@ -46,18 +46,20 @@ fits e buffer place = leb (place + length (eventBytes e)) (length buffer)
 
 -- what the writer says: an event that is not known is refused first
 abbrev pub writeEvent : Event → List ℕ → ℕ → ToldWritten
-writeEvent e buffer place = pick (knownOf e) (pick (fits e buffer place) (wrote (length (eventBytes e))) (refused noRoom)) (refused badEvent)
+writeEvent e buffer place =
+    pick (knownOf e) (pick (fits e buffer place) (wrote (length (eventBytes e))) (refused noRoom)) (refused badEvent)
 
 -- the buffer afterwards: the bytes of the event at the place, all others as before; refused, nothing is written
 abbrev pub bufferAfter : Event → List ℕ → ℕ → List ℕ
-bufferAfter e buffer place = pick (knownOf e) (pick (fits e buffer place) (sets buffer place (eventBytes e)) buffer) buffer
+bufferAfter e buffer place =
+    pick (knownOf e) (pick (fits e buffer place) (sets buffer place (eventBytes e)) buffer) buffer
 
 -- the length that is given: refused, it is 0
 abbrev pub lengthGiven : ToldWritten → ℕ
 lengthGiven (wrote n) = n
 lengthGiven (refused n) = 0
 
--- what each answer says, as the paper numbers it
+-- what each result says, as the paper numbers it
 abbrev pub tellsWritten : EventWritten → ToldWritten
 tellsWritten (Length n) = wrote n
 tellsWritten BadEvent = refused badEvent

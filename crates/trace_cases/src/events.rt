@@ -1,4 +1,7 @@
 // Cases of single events: reading at a place of a byte string, writing into a buffer.
+ghost use Rattle.output.specs.Contracts.{PutsNumbersLine};
+ghost use Rattle.casefile.specs.Contracts.{EndsWithin};
+ghost use Rattle.trace_cases.specs.Lines.{replyNumbers};
 use casefile::EVENT_NUMBERS;
 use casefile::Place;
 use casefile::event_of;
@@ -19,7 +22,9 @@ const MOST_BUFFER: usize = 96;
 const LINE: usize = 10;
 
 // how, refusal, place reached, code, arguments
-pub fn put_said(out: &mut [u8], n: usize, kind: u64, said: EventReply) -> usize {
+pub(crate) fn put_said(out: &mut [u8], n: usize, kind: u64, said: EventReply) -> usize
+    ensures { λ r. ⌜ PutsNumbersLine kind (replyNumbers said) (now (out .entry)) n r (now (out .exit)) ⌝ }
+{
     let e = said.event;
     let line: [u64; LINE] = [
         said.how,
@@ -37,7 +42,9 @@ pub fn put_said(out: &mut [u8], n: usize, kind: u64, said: EventReply) -> usize 
 }
 
 // place, bytes: what was read there
-pub fn read_case(s: &[u8], kind: u64, place: usize, out: &mut [u8], n: usize) -> Place {
+pub(crate) fn read_case(s: &[u8], kind: u64, place: usize, out: &mut [u8], n: usize) -> Place
+    ensures { λ r. ⌜ EndsWithin (now (s .entry)) r ⌝ }
+{
     let at = take(s, place);
     let part = take_bytes(s, at.next);
     let from = part.from;
@@ -65,7 +72,9 @@ fn write_line(
 }
 
 // place, event, buffer before: refusal, length, buffer after
-pub fn write_case(s: &[u8], kind: u64, place: usize, out: &mut [u8], n: usize) -> Place {
+pub(crate) fn write_case(s: &[u8], kind: u64, place: usize, out: &mut [u8], n: usize) -> Place
+    ensures { λ r. ⌜ EndsWithin (now (s .entry)) r ⌝ }
+{
     let at = take(s, place);
     let mut numbers = [0u64; EVENT_NUMBERS];
     let after = take_many(s, at.next, &mut numbers);

@@ -1,4 +1,5 @@
 // Cases of listings: the lister's own lines, with nothing before them.
+ghost use Rattle.casefile.specs.Contracts.{EndsWithin};
 use crate::pieces::put_pieces;
 use casefile::Place;
 use listing::LineWritten;
@@ -21,14 +22,16 @@ fn put_listing(trace: &[u8], total: usize, out: &mut [u8], n: usize) -> usize {
                 end = write_out(out, end + length, GATHERED);
             }
             LineWritten::Done { whole: _ } => return end,
-            // Met only where a write failed: what is gathered is else written while a line has room.
+            // Only after a failed write: otherwise what is gathered goes out while a line still has room.
             LineWritten::NoRoom => return end,
         }
     }
 }
 
 // pieces: the listing of the trace that they make
-pub fn list_case(s: &[u8], place: usize, out: &mut [u8], n: usize) -> Place {
+pub(crate) fn list_case(s: &[u8], place: usize, out: &mut [u8], n: usize) -> Place
+    ensures { λ r. ⌜ EndsWithin (now (s .entry)) r ⌝ }
+{
     let mut trace = io::large_buffer();
     let made = put_pieces(s, place, &mut trace);
     let length = made.length;

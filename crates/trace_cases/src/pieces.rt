@@ -1,5 +1,5 @@
 // Buffers of pieces, each a byte string that stands there a number of times.
-ghost use Prim.Native.Nat.{_≤_};
+ghost use Prim.Native.Nat.{_≤_, max};
 ghost use lib.ListN.{length};
 ghost use Rattle.io.specs.Counts.{Counts};
 use casefile::take;
@@ -7,15 +7,14 @@ use casefile::take_bytes;
 use output::put_all;
 
 // How much of a buffer is filled, and whether there was room for all.
-pub struct Filled {
-    pub length: usize,
-    pub whole: bool,
+pub(crate) struct Filled {
+    pub(crate) length: usize,
+    pub(crate) whole: bool,
 }
 
 // A piece so many times, from n on.
-pub fn put_piece(piece: &[u8], times: u64, buffer: &mut [u8], n: usize) -> Filled
-    requires { ⌜ n ≤ length (now buffer) ⌝ }
-    ensures { λ r. ⌜ Counts (r .length) (now (buffer .exit)) ⌝ }
+pub(crate) fn put_piece(piece: &[u8], times: u64, buffer: &mut [u8], n: usize) -> Filled
+    ensures { λ r. ⌜ r .length ≤ max n (length (now (buffer .exit))) ⌝ }
 {
     let mut left = times;
     let mut end = n;
@@ -37,15 +36,16 @@ pub fn put_piece(piece: &[u8], times: u64, buffer: &mut [u8], n: usize) -> Fille
 }
 
 // What pieces make, and where the case file is read next.
-pub struct Made {
-    pub next: usize,
-    pub length: usize,
-    pub whole: bool,
+pub(crate) struct Made {
+    pub(crate) next: usize,
+    pub(crate) length: usize,
+    pub(crate) whole: bool,
 }
 
 // count, pieces: end to end in a buffer, as far as it has room
-pub fn put_pieces(s: &[u8], place: usize, buffer: &mut [u8]) -> Made
+pub(crate) fn put_pieces(s: &[u8], place: usize, buffer: &mut [u8]) -> Made
     ensures { λ r. ⌜ Counts (r .length) (now (buffer .exit)) ⌝ }
+    ensures { λ r. ⌜ r .next ≤ length (now (s .entry)) ⌝ }
 {
     let count = take(s, place);
     let mut left = count.value;

@@ -12,7 +12,7 @@ fn ends_at(bytes: &[u8], i: usize, b: u8) -> bool {
 }
 
 // A line of the pairs, none for an empty buffer.
-pub fn put_repeats(out: &mut [u8], n: usize, kind: u64, bytes: &[u8]) -> usize {
+pub(crate) fn put_repeats(out: &mut [u8], n: usize, kind: u64, bytes: &[u8]) -> usize {
     let none: [u64; 0] = [];
     let mut end = put_numbers(out, n, kind, &none);
     let mut count: usize = 0;

@@ -1,4 +1,7 @@
 // Cases of runs, each from the state that the one before gave back.
+ghost use Prim.Native.Nat.{_≤_, max};
+ghost use lib.ListN.{length};
+ghost use Rattle.casefile.specs.Contracts.{EndsWithin};
 use crate::pieces::put_piece;
 use crate::pieces::put_pieces;
 use crate::repeats::put_repeats;
@@ -55,8 +58,8 @@ fn put_run(
     }
 }
 
-// A run of a case: the state after it, where the case file is read next, and how much output is
-// gathered.
+// How far the runs of a case have come: the state, where the case file is read next, and how much output
+// is gathered.
 struct Gone {
     state: Phy,
     next: usize,
@@ -64,8 +67,10 @@ struct Gone {
 }
 
 // budget, length and byte of the buffer, pieces
-fn one_run(s: &[u8], kind: u64, place: usize, phy: Phy, out: &mut [u8], n: usize) -> Gone {
-    let budget = take(s, place);
+fn one_run(s: &[u8], kind: u64, gone: Gone, out: &mut [u8]) -> Gone
+    ensures { λ r. ⌜ r .next ≤ length (now (s .entry)) ⌝ }
+{
+    let budget = take(s, gone.next);
     let room = take(s, budget.next);
     let byte = take(s, room.next);
     let mut lent = io::large_buffer();
@@ -76,13 +81,13 @@ fn one_run(s: &[u8], kind: u64, place: usize, phy: Phy, out: &mut [u8], n: usize
     let made = put_pieces(s, byte.next, &mut trace);
     let length = made.length;
     let after = put_run(
-        phy,
+        gone.state,
         &trace[..length],
         budget.value as usize,
-        &mut lent[..count],
+        &mut lent[0..count],
         kind,
         out,
-        n,
+        gone.n,
     );
     let state = after.state;
     Gone {
@@ -92,21 +97,33 @@ fn one_run(s: &[u8], kind: u64, place: usize, phy: Phy, out: &mut [u8], n: usize
     }
 }
 
+fn all_runs(s: &[u8], kind: u64, count: u64, start: Gone, out: &mut [u8]) -> Gone
+    ensures { λ r. ⌜ r .next ≤ max (start .next) (length (now (s .entry))) ⌝ }
+{
+    let mut left = count;
+    let mut gone = start;
+    while 0 < left {
+        left -= 1;
+        gone = one_run(s, kind, gone, out);
+    }
+    gone
+}
+
 // phy, count, runs: for each the two lines
-pub fn run_case(s: &[u8], kind: u64, place: usize, out: &mut [u8], n: usize) -> Place {
+pub(crate) fn run_case(s: &[u8], kind: u64, place: usize, out: &mut [u8], n: usize) -> Place
+    ensures { λ r. ⌜ EndsWithin (now (s .entry)) r ⌝ }
+{
     let mut fields = [0u64; PHY_NUMBERS];
     let first = take_many(s, place, &mut fields);
     let count = take(s, first);
-    let mut left = count.value;
-    let mut state = phy_of(fields);
-    let mut next = count.next;
-    let mut end = n;
-    while 0 < left {
-        left -= 1;
-        let gone = one_run(s, kind, next, state, out, end);
-        state = gone.state;
-        next = gone.next;
-        end = gone.n;
+    let start = Gone {
+        state: phy_of(fields),
+        next: count.next,
+        n,
+    };
+    let gone = all_runs(s, kind, count.value, start, out);
+    Place {
+        next: gone.next,
+        n: gone.n,
     }
-    Place { next, n: end }
 }

@@ -1,11 +1,12 @@
 // Cases of whole traces: each event is read and written again where it stood.
+ghost use Rattle.casefile.specs.Contracts.{EndsWithin};
 use crate::events::put_said;
 use crate::pieces::put_piece;
 use crate::repeats::put_repeats;
 use casefile::Place;
 use casefile::take_bytes;
 
-// What the copy is filled with, so that what no event was written over shows.
+// What the copy is filled with, so that a byte to which no event was written shows.
 const UNTOUCHED: u8 = 255;
 
 // A line for each event and for what ends the trace, and the copy that the events make.
@@ -28,7 +29,9 @@ fn put_events(trace: &[u8], copy: &mut [u8], kind: u64, out: &mut [u8], n: usize
 }
 
 // bytes, as many as the copy has room for: the lines of their events, and the copy
-pub fn trace_case(s: &[u8], kind: u64, place: usize, out: &mut [u8], n: usize) -> Place {
+pub(crate) fn trace_case(s: &[u8], kind: u64, place: usize, out: &mut [u8], n: usize) -> Place
+    ensures { λ r. ⌜ EndsWithin (now (s .entry)) r ⌝ }
+{
     let part = take_bytes(s, place);
     let from = part.from;
     let to = part.to;
@@ -36,6 +39,6 @@ pub fn trace_case(s: &[u8], kind: u64, place: usize, out: &mut [u8], n: usize) -
     let before = [UNTOUCHED];
     let filled = put_piece(&before, (to - from) as u64, &mut copy, 0);
     let room = filled.length;
-    let end = put_events(&s[from..to], &mut copy[..room], kind, out, n);
+    let end = put_events(&s[from..to], &mut copy[0..room], kind, out, n);
     Place { next: to, n: end }
 }

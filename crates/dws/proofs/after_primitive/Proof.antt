@@ -10,8 +10,5 @@ unfolding afterPrimitive
 after-primitive-spec =
     tie.close
     (tie.spec
-    (λ _ _. tt)
-    (λ c. simp (c .match .keys1))
-    (λ c. simp (c .match .keys2))
-    (λ c. simp (c .match .keys3))
+    (λ _ _. tt) (λ c. simp (c .match .keys1)) (λ c. simp (c .match .keys2)) (λ c. simp (c .match .keys3))
     (λ c. c .after-valid .ensures ∙ sym (unlisted _ primitiveRows _ (c .before .match .rest))))

@@ -10,9 +10,7 @@ unfolding nextState
 next-state-spec =
     tie.close
     (tie.spec
-    (λ _ _. tt)
-    (λ _ _. tt)
-    (λ _ _. tt)
+    (λ _ _. tt) (λ _ _. tt) (λ _ _. tt)
     (λ c. simp (c .after-invalid .ensures, c .before .match .keys1))
     (λ c. simp (c .after-valid .ensures, c .before .match .keys2))
     (λ c. simp (c .after-primitive .ensures, c .before .match .keys3))

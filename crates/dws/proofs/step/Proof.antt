@@ -11,6 +11,5 @@ step-spec =
     (tie.spec
     (λ c. simp (lt-leb _ _ (c .if1 .taken)))
     (λ c. simp (le-leb _ _ (c .before .if1 .left), lt-leb _ _ (c .if2 .taken)))
-    (λ _ _. tt)
-    (λ _ _. tt)
+    (λ _ _. tt) (λ _ _. tt)
     (λ c. simp (c .report-of .ensures, c .before .next-state .ensures, le-leb _ _ (c .before .before .before .if1 .left), le-leb _ _ (c .before .before .if2 .left))))

@@ -12,7 +12,5 @@ unfolding argumentCount
 argument-count-spec =
     tie.close
     (tie.spec
-    (λ c. simp (c .match .keys1))
-    (λ c. simp (c .match .keys2))
-    (λ c. simp (c .match .keys3))
+    (λ c. simp (c .match .keys1)) (λ c. simp (c .match .keys2)) (λ c. simp (c .match .keys3))
     (λ c. ap length (sym (unlisted _ argumentRows [] (c .match .rest)))))

@@ -12,9 +12,7 @@ unfolding argumentRange
 argument-range-spec =
     tie.close
     (tie.spec
-    (λ _ _. tt)
-    (λ _ _. tt)
-    (λ _ _. tt)
+    (λ _ _. tt) (λ _ _. tt) (λ _ _. tt)
     (λ c. simp (c .tx-open-range .ensures, c .before .match .keys1))
     (λ c. simp (c .open-range .ensures, c .before .match .keys2))
     (λ c. simp (c .reject-range .ensures, c .before .match .keys3))

@@ -8,6 +8,5 @@ unfolding knownOf
 known-spec =
     tie.close
     (tie.spec
-    (λ _ _. tt)
-    (λ _ _. tt)
+    (λ _ _. tt) (λ _ _. tt)
     (λ c. simp (c .arguments-known .ensures, c .before .code-known .ensures)))

@@ -8,5 +8,4 @@ unfolding openKnown
 open-known-spec =
     tie.close
     (tie.spec
-    (λ _ _. tt)
-    (λ c. c .arguments-known .ensures))
+    (λ _ _. tt) (λ c. c .arguments-known .ensures))

@@ -10,6 +10,5 @@ pub open-range-spec : {M : Type 1} → statement M
 open-range-spec =
     tie.close
     (tie.spec
-    (λ c. simp (c .match .keys1))
-    (λ c. simp (c .match .keys2))
+    (λ c. simp (c .match .keys1)) (λ c. simp (c .match .keys2))
     (λ c. sym (List·getD-eq-default openArguments (0 to 0) {n = c .before .args .i} (omega arith))))

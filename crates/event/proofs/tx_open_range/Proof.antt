@@ -10,10 +10,6 @@ pub tx-open-range-spec : {M : Type 1} → statement M
 tx-open-range-spec =
     tie.close
     (tie.spec
-    (λ c. simp (c .match .keys1))
-    (λ c. simp (c .match .keys2))
-    (λ c. simp (c .match .keys3))
-    (λ c. simp (c .match .keys4))
-    (λ c. simp (c .match .keys5))
-    (λ c. simp (c .match .keys6))
+    (λ c. simp (c .match .keys1)) (λ c. simp (c .match .keys2)) (λ c. simp (c .match .keys3))
+    (λ c. simp (c .match .keys4)) (λ c. simp (c .match .keys5)) (λ c. simp (c .match .keys6))
     (λ c. sym (List·getD-eq-default txOpenArguments (0 to 0) {n = c .before .args .i} (omega arith))))

@@ -10,11 +10,7 @@ unfolding counted
 counted-spec =
     tie.close
     (tie.spec
-    (λ _ _. tt)
-    (λ _ _. tt)
+    (λ _ _. tt) (λ _ _. tt)
     (λ c. simp (c .reports .ensures, c .before .goes .ensures, le-leb _ _ (c .before .before .if1 .taken)))
-    (λ c. omega arith)
-    (λ _ _. tt)
-    (λ _ _. tt)
-    (λ _ _. tt)
+    (λ c. omega arith) (λ _ _. tt) (λ _ _. tt) (λ _ _. tt)
     (λ c. simp (c .quiet .ensures, c .before .goes2 .ensures, c .before .before .type-after .ensures, lt-leb _ _ (c .before .before .before .before .if1 .left))))

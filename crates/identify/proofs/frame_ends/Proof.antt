@@ -8,8 +8,7 @@ unfolding frameEnds
 frame-ends-spec =
     tie.close
     (tie.spec
-    (λ _ _. tt)
-    (λ _ _. tt)
+    (λ _ _. tt) (λ _ _. tt)
     (λ c. simp (c .exchanged .ensures, c .before .before .goes .ensures, c .before .if1 .taken))
     (λ _ _. tt)
     (λ c. simp (c .reports .ensures, c .before .before .goes .ensures, c .before .if1 .left)))

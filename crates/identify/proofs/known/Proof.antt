@@ -8,5 +8,4 @@ unfolding knownOf
 known-spec =
     tie.close
     (tie.spec
-    (λ _ _. tt)
-    (λ c. simp (c .most .ensures)))
+    (λ _ _. tt) (λ c. simp (c .most .ensures)))

@@ -9,6 +9,4 @@ unfolding mostOf
 most-spec =
     tie.close
     (tie.spec
-    (λ c. simp (c .match .keys1))
-    (λ c. simp (c .match .keys2))
-    (λ c. search ne-eqb))
+    (λ c. simp (c .match .keys1)) (λ c. simp (c .match .keys2)) (λ c. search ne-eqb))

@@ -9,10 +9,7 @@ unfolding onEoaf
 on-eoaf-spec =
     tie.close
     (tie.spec
-    (λ _ _. tt)
-    (λ _ _. tt)
-    (λ _ _. tt)
-    (λ _ _. tt)
+    (λ _ _. tt) (λ _ _. tt) (λ _ _. tt) (λ _ _. tt)
     (λ c. simp (c .frame-ends .ensures, c .before .match .keys1))
     (λ c. simp (c .quiet .ensures, c .before .goes .ensures, c .before .before .match .keys2))
     (λ c. search (c .quiet2 .ensures, ne-eqb)))

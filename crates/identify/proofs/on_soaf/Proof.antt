@@ -9,11 +9,7 @@ unfolding onSoaf
 on-soaf-spec =
     tie.close
     (tie.spec
-    (λ _ _. tt)
-    (λ _ _. tt)
-    (λ _ _. tt)
-    (λ _ _. tt)
-    (λ _ _. tt)
+    (λ _ _. tt) (λ _ _. tt) (λ _ _. tt) (λ _ _. tt) (λ _ _. tt)
     (λ c. simp (c .quiet .ensures, c .before .before .goes .ensures, c .before .match .keys1))
     (λ c. simp (c .reports .ensures, c .before .before .goes .ensures, c .before .match .keys2))
     (λ c. simp (c .quiet2 .ensures, c .before .before .goes .ensures, c .before .match .keys3))

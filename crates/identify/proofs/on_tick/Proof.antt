@@ -12,8 +12,7 @@ on-tick-spec =
     (tie.spec
     (λ _ _. tt)
     (λ c. simp (c .quiet .ensures, eq-eqb _ _ (c .before .if1 .taken)))
-    (λ c. omega arith)
-    (λ _ _. tt)
+    (λ c. omega arith) (λ _ _. tt)
     (λ c. simp (c .ends .ensures, ne-eqb _ _ (c .before .before .before .if1 .left), eq-eqb _ _ (c .before .if2 .taken)))
     (λ _ _. tt)
     (λ c. simp (c .quiet2 .ensures, ne-eqb _ _ (c .before .before .before .if1 .left), ne-eqb _ _ (c .before .if2 .left))))

@@ -8,11 +8,7 @@ unfolding stepOf
 step-spec =
     tie.close
     (tie.spec
-    (λ _ _. tt)
-    (λ _ _. tt)
-    (λ _ _. tt)
-    (λ _ _. tt)
-    (λ _ _. tt)
+    (λ _ _. tt) (λ _ _. tt) (λ _ _. tt) (λ _ _. tt) (λ _ _. tt)
     (λ c. simp (c .moved .ensures, ← c .before .before .known .ensures, ← c .before .before .before .before .valid .ensures, c .before .if2 .taken, c .before .before .before .if1 .taken))
     (λ c. simp (c .refused .ensures, ← c .before .before .known .ensures, ← c .before .before .before .before .valid .ensures, c .before .if2 .left, c .before .before .before .if1 .taken))
     (λ c. simp (c .refused2 .ensures, ← c .before .before .valid .ensures, c .before .if1 .left)))

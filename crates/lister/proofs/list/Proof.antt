@@ -69,24 +69,7 @@ returns-2 c =
 pub list-spec : {M : Type 1} → statement M
 list-spec =
     tie.close
-    (tie.spec
-    Inv-loop
-    μ-loop
-    (λ _ _. tt)
-    loop-holds
-    (λ _ _. tt)
-    (λ c. search needs)
-    add-n
-    loop-less
-    loop-again
-    (λ c. search needs)
-    (λ _ _. tt)
-    (λ c. search needs)
-    (λ c. search needs)
-    loop-less-2
-    loop-again-2
-    (λ c. search needs)
-    (λ _ _. tt)
-    (λ _ _. tt)
-    (λ c. search needs)
-    returns-2)
+    (tie.spec Inv-loop μ-loop
+    (λ _ _. tt) loop-holds (λ _ _. tt) (λ c. search needs) add-n loop-less loop-again (λ c. search needs) (λ _ _. tt)
+    (λ c. search needs) (λ c. search needs) loop-less-2 loop-again-2 (λ c. search needs) (λ _ _. tt) (λ _ _. tt)
+    (λ c. search needs) returns-2)

@@ -9,11 +9,5 @@ pub total-spec : {M : Type 1} → statement M
 total-spec =
     tie.close
     (tie.spec
-    (λ c. search needs)
-    (λ c κs. search needs)
-    (λ c. inl refl)
-    (λ c. search needs)
-    (λ c. inr (c .before .if2 .taken, refl))
-    (λ c. search needs)
-    (λ c κs. search needs)
-    (λ c. search needs))
+    (λ c. search needs) (λ c κs. search needs) (λ c. inl refl) (λ c. search needs)
+    (λ c. inr (c .before .if2 .taken, refl)) (λ c. search needs) (λ c κs. search needs) (λ c. search needs))

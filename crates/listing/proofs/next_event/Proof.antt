@@ -12,11 +12,11 @@ read c e = sym (c .event-at .ensures) ∙ ap tells e
 
 returns : tie.Need-returns
 returns c =
-    rw (read (c .before .before .before .before .before .before .before .before .before .before .before) (c .before .before .before .before .before .before .before .before .before .event .given .1), ← c .before .before .before .before .before .before .before .step .ensures)
-    (rw (c .before .before .before .before .before .wrapping-add-u64 .ensures) at (c .before .before .put-line .ensures _ (c .before .before .before .before .event-line .ensures)))
+    rw (read (c .before .before .before .before .before .before .before .before .before .before) (c .before .before .before .before .before .before .before .before .event .given .1), ← c .before .before .before .before .before .before .step .ensures)
+    (rw (c .before .before .before .before .wrapping-add-u64 .ensures) at (c .before .before .put-event .ensures))
 
 returns-2 : tie.Need-returns-2
-returns-2 c = rw (read (c .before .before .before .before .before .before .before) (c .before .before .before .before .before .enum-told .given .1)) (c .before .before .put-line2 .ensures _ (c .before .before .before .before .end-line .ensures))
+returns-2 c = rw (read (c .before .before .before .before .before .before .before .before) (c .before .before .before .before .before .before .enum-told .given .1)) (c .before .before .put-last .ensures)
 
 returns-3 : tie.Need-returns-3
 returns-3 c = rw (read (c .before .before .before .before .before .before .before) (c .before .before .before .before .before .first .given .1)) (c .before .before .put-stop .ensures)
@@ -34,32 +34,8 @@ pub next-event-spec : {M : Type 1} → statement M
 next-event-spec =
     tie.close
     (tie.spec
-    (λ _ _. tt)
-    (λ c. search needs)
-    (λ _ _. tt)
-    (λ _ _. tt)
-    (λ _ _. tt)
-    (λ c κs. search needs)
-    (λ c. search needs)
-    (λ _ _. tt)
-    (λ c κs. search needs)
-    (λ c. search needs)
-    (λ _ _. tt)
-    (λ c. search needs)
-    (λ _ _. tt)
-    (λ c. search needs)
-    (λ _ _. tt)
-    (λ c. search needs)
-    (λ _ _. tt)
-    (λ c. search needs)
-    returns
-    (λ c. search needs)
-    returns-2
-    (λ c. search needs)
-    returns-3
-    (λ c. search needs)
-    returns-4
-    (λ c. search needs)
-    returns-5
-    (λ c. search needs)
-    returns-6)
+    (λ _ _. tt) (λ c. search needs) (λ _ _. tt) (λ _ _. tt) (λ _ _. tt) (λ c. search needs) (λ c. search needs)
+    (λ c. search needs) (λ c κs. search needs) (λ c. search needs) (λ _ _. tt) (λ c. search needs) (λ _ _. tt)
+    (λ c. search needs) (λ _ _. tt) (λ c. search needs) (λ _ _. tt) (λ c. search needs) returns (λ c. search needs)
+    returns-2 (λ c. search needs) returns-3 (λ c. search needs) returns-4 (λ c. search needs) returns-5
+    (λ c. search needs) returns-6)

@@ -8,7 +8,7 @@ use Rattle.listing.proofs.next_line.Tie as tie
 
 returns : tie.Need-returns
 unfolding lineAt
-returns c = rw (c .before .before .before .before .before .before .enum-told .given .1, ← c .before .before .before .before .before .fresh .ensures) (c .before .before .put-line .ensures _ (c .before .before .before .before .header-line .ensures))
+returns c = rw (c .before .before .before .before .before .before .before .enum-told .given .1, ← c .before .before .before .before .before .before .fresh .ensures) (c .before .before .put-line .ensures)
 
 returns-2 : tie.Need-returns-2
 unfolding lineAt
@@ -16,7 +16,7 @@ returns-2 c = rw (c .before .before .before .before .before .progress .given .1)
 
 returns-3 : tie.Need-returns-3
 unfolding lineAt
-returns-3 c = rw (c .before .before .before .before .before .enum-told2 .given .1) (c .before .before .put-line2 .ensures _ (c .before .before .before .before .too-long-line .ensures))
+returns-3 c = rw (c .before .before .before .before .before .enum-told2 .given .1) (c .before .before .put-line2 .ensures)
 
 returns-4 : tie.Need-returns-4
 unfolding lineAt
@@ -26,20 +26,6 @@ pub next-line-spec : {M : Type 1} → statement M
 next-line-spec =
     tie.close
     (tie.spec
-    (λ c. search needs)
-    (λ _ _. tt)
-    (λ _ _. tt)
-    (λ c κs. search needs)
-    (λ c. search needs)
-    (λ _ _. tt)
-    (λ c. search needs)
-    (λ _ _. tt)
-    (λ c κs. search needs)
-    (λ c. search needs)
-    (λ c. search needs)
-    returns
-    (λ c. search needs)
-    returns-2
-    (λ c. search needs)
-    returns-3
-    returns-4)
+    (λ c. search needs) (λ _ _. tt) (λ c κs. search needs) (λ c. search needs) (λ _ _. tt) (λ c. search needs)
+    (λ c. search needs) (λ c κs. search needs) (λ c. search needs) (λ c. search needs) returns (λ c. search needs)
+    returns-2 (λ c. search needs) returns-3 returns-4)

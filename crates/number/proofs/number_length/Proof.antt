@@ -13,11 +13,8 @@ abbrev μ-loop : tie.MeasureT-loop
 pub number-length-spec : {M : Type 1} → statement M
 number-length-spec =
     tie.close
-    (tie.spec
-    Inv-loop
-    μ-loop
+    (tie.spec Inv-loop μ-loop
     (λ c. counted-start (c .args .value) (c .fits .value .fits))
-    (λ c. omega arith)
-    (λ c. omega arith)
+    (λ c. omega arith) (λ c. omega arith)
     (λ c. counted-on (c .before .loop .inv) (c .loop-test .taken))
     (λ c. counted-done (c .before .loop .inv) (c .loop-test .left)))

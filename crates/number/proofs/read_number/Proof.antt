@@ -50,36 +50,27 @@ returns-6 c =
 pub read-number-spec : {M : Type 1} → statement M
 read-number-spec =
     tie.close
-    (tie.spec
-    Inv-loop
-    μ-loop
-    (λ c. sym (first-cut _ _ (c .if1 .taken)))
-    (λ c. omega arith)
+    (tie.spec Inv-loop μ-loop
+    (λ c. sym (first-cut _ _ (c .if1 .taken))) (λ c. omega arith)
     (λ c. omega (arith, c .shared-slice-known2 .given (c .before .before .before .args .place)))
     (λ c. omega arith)
     (λ c. sym (first-last _ _ (omega arith) (c .if2 .taken)))
-    (λ c. omega arith)
-    (λ _ _. tt)
-    loop-holds
+    (λ c. omega arith) (λ _ _. tt) loop-holds
     (λ c. omega (arith, c .before .before .loop .inv .1 .inside))
     (λ c. omega (arith, c .shared-slice-known3 .given (c .before .before .loop .next)))
     (λ c. omega (arith, c .before .before .loop .inv .1 .inside))
     (λ c. omega arith)
     (λ c. omega (arith, last-fits (c .before .before .before .loop .inv .0) (omega (arith, c .before .before .before .loop .inv .1 .before)) (c .if3 .taken)))
     (λ c. omega (arith, last-fits (c .before .before .before .loop .inv .0) (omega (arith, c .before .before .before .loop .inv .1 .before)) (c .if3 .taken)))
-    (λ _ _. tt)
-    returns-3
+    (λ _ _. tt) returns-3
     (λ c. omega (arith, more-fits (c .before .before .before .loop .inv .0) (omega (arith, c .before .before .before .loop .inv .1 .before)) (c .before .shared-slice-known3 .given _ .fits)))
     (λ c. omega (arith, more-fits (c .before .before .before .loop .inv .0) (omega (arith, c .before .before .before .loop .inv .1 .before)) (c .before .shared-slice-known3 .given _ .fits)))
     (λ c. omega (arith, weight-fits (c .before .before .before .loop .inv .0) (omega (arith, c .before .before .before .loop .inv .1 .before))))
-    (λ c. omega arith)
-    loop-again
+    (λ c. omega arith) loop-again
     (λ c. sym (passed-cut (c .before .before .loop .inv .0) (c .if4 .taken)))
     (λ c. omega arith)
     (λ c. omega (arith, c .shared-slice-known4 .given (c .before .before .before .loop .next)))
     (λ c. sym (tenth-large (c .before .before .before .before .loop .inv .0) (omega (arith, c .before .before .before .before .loop .inv .1 .tenth (omega arith))) (omega arith) (c .if5 .taken)))
     (λ c. omega (arith, tenth-fits (c .before .before .before .before .loop .inv .0) (omega (arith, c .before .before .before .before .loop .inv .1 .tenth (omega arith))) (omega arith) (c .if5 .left)))
     (λ c. omega (arith, tenth-fits (c .before .before .before .before .loop .inv .0) (omega (arith, c .before .before .before .before .loop .inv .1 .tenth (omega arith))) (omega arith) (c .if5 .left)))
-    (λ c. omega arith)
-    (λ _ _. tt)
-    returns-6)
+    (λ c. omega arith) (λ _ _. tt) returns-6)

@@ -47,21 +47,7 @@ returns-3 c =
 pub write-number-spec : {M : Type 1} → statement M
 write-number-spec =
     tie.close
-    (tie.spec
-    Inv-loop
-    μ-loop
-    (λ _ _. tt)
-    returns
-    (λ c. search needs)
-    returns-2
-    loop-holds
-    (λ c. omega arith)
-    (λ c. omega arith)
-    slice-write-buffer
-    add-at
-    (λ c. omega arith)
-    loop-again
-    (λ c. omega arith)
-    slice-write-buffer-2
-    same-length
+    (tie.spec Inv-loop μ-loop
+    (λ _ _. tt) returns (λ c. search needs) returns-2 loop-holds (λ c. omega arith) (λ c. omega arith)
+    slice-write-buffer add-at (λ c. omega arith) loop-again (λ c. omega arith) slice-write-buffer-2 same-length
     returns-3)

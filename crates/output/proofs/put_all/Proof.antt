@@ -22,14 +22,6 @@ returns c = puts-within (bytes-done _ _ (c .before .loop .inv) (c .loop-test .le
 pub put-all-spec : {M : Type 1} → statement M
 put-all-spec =
     tie.close
-    (tie.spec
-    Inv-loop
-    μ-loop
-    (λ c. putting-start _ _ _)
-    (λ c. omega arith)
-    (λ _ _. tt)
-    (λ c. omega arith)
-    (λ c. omega arith)
-    loop-again
-    (λ c. c .before .loop .inv .long)
-    returns)
+    (tie.spec Inv-loop μ-loop
+    (λ c. putting-start _ _ _) (λ c. omega arith) (λ _ _. tt) (λ c. omega arith) (λ c. omega arith) loop-again
+    (λ c. c .before .loop .inv .long) returns)

@@ -20,15 +20,8 @@ loop-again c =
 pub put-bytes-spec : {M : Type 1} → statement M
 put-bytes-spec =
     tie.close
-    (tie.spec
-    Inv-loop
-    μ-loop
-    (λ c. putting-start _ _ _)
-    (λ c. omega arith)
+    (tie.spec Inv-loop μ-loop
+    (λ c. putting-start _ _ _) (λ c. omega arith)
     (λ c. omega (arith, c .shared-slice-known2 .given (c .before .before .before .loop .i)))
-    (λ _ _. tt)
-    (λ c. omega arith)
-    (λ c. omega arith)
-    loop-again
-    (λ c. c .before .loop .inv .long)
+    (λ _ _. tt) (λ c. omega arith) (λ c. omega arith) loop-again (λ c. c .before .loop .inv .long)
     (λ c. more-done _ _ (c .before .loop .inv) (c .loop-test .left)))

@@ -8,7 +8,5 @@ pub put-line-spec : {M : Type 1} → statement M
 put-line-spec =
     tie.close
     (tie.spec
-    (λ _ _. tt)
-    (λ _ _. tt)
-    (λ c. search needs)
+    (λ _ _. tt) (λ _ _. tt) (λ c. search needs)
     (λ c. puts-line (c .before .before .before .before .before .before .put-numbers .ensures) (c .before .before .end-line .ensures)))

@@ -20,15 +20,7 @@ loop-again c =
 pub put-more-spec : {M : Type 1} → statement M
 put-more-spec =
     tie.close
-    (tie.spec
-    Inv-loop
-    μ-loop
-    (λ c. putting-start _ _ _)
-    (λ c. omega arith)
-    (λ c. omega arith)
-    (λ _ _. tt)
-    (λ c. omega arith)
-    (λ c. omega arith)
-    loop-again
-    (λ c. c .before .loop .inv .long)
+    (tie.spec Inv-loop μ-loop
+    (λ c. putting-start _ _ _) (λ c. omega arith) (λ c. omega arith) (λ _ _. tt) (λ c. omega arith) (λ c. omega arith)
+    loop-again (λ c. c .before .loop .inv .long)
     (λ c. more-done _ _ (c .before .loop .inv) (c .loop-test .left)))

@@ -14,9 +14,4 @@ pub put-number-spec : {M : Type 1} → statement M
 put-number-spec =
     tie.close
     (tie.spec
-    (λ _ _. tt)
-    (λ c. search needs)
-    (λ c. search needs)
-    (λ _ _. tt)
-    (λ c. search needs)
-    returns)
+    (λ _ _. tt) (λ c. search needs) (λ c. search needs) (λ _ _. tt) (λ c. search needs) returns)

@@ -8,7 +8,5 @@ pub put-numbers-spec : {M : Type 1} → statement M
 put-numbers-spec =
     tie.close
     (tie.spec
-    (λ _ _. tt)
-    (λ _ _. tt)
-    (λ c. search needs)
+    (λ _ _. tt) (λ _ _. tt) (λ c. search needs)
     (λ c. puts-then (c .before .before .before .before .before .before .put-number .ensures) (c .before .before .put-more .ensures)))

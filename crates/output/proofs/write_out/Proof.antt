@@ -18,9 +18,5 @@ pub write-out-spec : {M : Type 1} → statement M
 write-out-spec =
     tie.close
     (tie.spec
-    (λ c. rw (c .if1 .taken))
-    (λ _ _. tt)
-    (λ c. sym (length-take-le _ _ (omega arith)))
-    (λ _ _. tt)
-    (λ _ _. tt)
+    (λ c. rw (c .if1 .taken)) (λ _ _. tt) (λ c. sym (length-take-le _ _ (omega arith))) (λ _ _. tt) (λ _ _. tt)
     returns-2)

@@ -8,9 +8,7 @@ unfolding stepOf
 step-spec =
     tie.close
     (tie.spec
-    (λ _ _. tt)
-    (λ _ _. tt)
-    (λ _ _. tt)
+    (λ _ _. tt) (λ _ _. tt) (λ _ _. tt)
     (λ c. simp (c .moved .ensures, ← c .before .before .before .before .valid .ensures, c .before .before .before .if1 .taken, ← c .before .before .known .ensures, c .before .if2 .taken))
     (λ _ _. tt)
     (λ c. simp (c .refused .ensures, ← c .before .before .before .before .valid .ensures, c .before .before .before .if1 .taken, ← c .before .before .known .ensures, c .before .if2 .left))

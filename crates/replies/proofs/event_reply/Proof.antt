@@ -11,17 +11,8 @@ pub event-reply-spec : {M : Type 1} → statement M
 event-reply-spec =
     tie.close
     (tie.spec
-    (λ c. search needs)
-    (λ c. search needs)
-    (λ _ _. tt)
-    (λ c. search needs)
-    (λ _ _. tt)
-    (λ c. search needs)
-    (λ _ _. tt)
-    (λ c. search needs)
-    (λ _ _. tt)
-    (λ c. search needs)
-    (λ _ _. tt)
+    (λ c. search needs) (λ c. search needs) (λ _ _. tt) (λ c. search needs) (λ _ _. tt) (λ c. search needs)
+    (λ _ _. tt) (λ c. search needs) (λ _ _. tt) (λ c. search needs) (λ _ _. tt)
     (λ c. as-matched (λ read. eventReply (c .before .before .before .args .place) (tells read)) (c .before .read .given .1) refl)
     (λ c. as-matched (λ read. eventReply (c .before .before .before .args .place) (tells read)) (c .before .enum-told .given .1) (c .no-event .ensures))
     (λ c. as-matched (λ read. eventReply (c .before .before .before .args .place) (tells read)) (c .before .enum-told2 .given .1) (c .no-event2 .ensures))

@@ -11,9 +11,7 @@ pub event-written-spec : {M : Type 1} → statement M
 event-written-spec =
     tie.close
     (tie.spec
-    (λ c. search needs)
-    (λ c. search needs)
-    (λ c. search needs)
+    (λ c. search needs) (λ c. search needs) (λ c. search needs)
     (λ c. as-matched (λ written. eventWritten (tellsWritten written)) (c .before .written .given .1) refl)
     (λ c. as-matched (λ written. eventWritten (tellsWritten written)) (c .enum-told .given .1) refl)
     (λ c. as-matched (λ written. eventWritten (tellsWritten written)) (c .enum-told2 .given .1) refl))

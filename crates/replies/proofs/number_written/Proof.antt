@@ -11,7 +11,6 @@ pub number-written-spec : {M : Type 1} → statement M
 number-written-spec =
     tie.close
     (tie.spec
-    (λ c. search needs)
-    (λ c. search needs)
+    (λ c. search needs) (λ c. search needs)
     (λ c. as-matched (λ written. numberWritten (tellsWritten written)) (c .before .written .given .1) refl)
     (λ c. as-matched (λ written. numberWritten (tellsWritten written)) (c .enum-told .given .1) refl))

@@ -8,6 +8,5 @@ pub read-event-spec : {M : Type 1} → statement M
 read-event-spec =
     tie.close
     (tie.spec
-    (λ _ _. tt)
-    (λ _ _. tt)
+    (λ _ _. tt) (λ _ _. tt)
     (λ c. c .event-reply .ensures ∙ ap (eventReply _) (c .before .event-at .ensures)))

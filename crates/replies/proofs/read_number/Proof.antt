@@ -8,6 +8,5 @@ pub read-number-spec : {M : Type 1} → statement M
 read-number-spec =
     tie.close
     (tie.spec
-    (λ _ _. tt)
-    (λ _ _. tt)
+    (λ _ _. tt) (λ _ _. tt)
     (λ c. c .number-reply .ensures ∙ ap (numberReply _) (c .before .read-number .ensures)))

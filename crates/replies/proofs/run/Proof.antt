@@ -8,7 +8,5 @@ pub run-spec : {M : Type 1} → statement M
 run-spec =
     tie.close
     (tie.spec
-    (λ _ _. tt)
-    (λ _ _. tt)
-    (λ c. search needs)
-    (λ c. run-says (c .before .before .before .before .run .ensures) (c .stop-reply .ensures)))
+    (λ _ _. tt) (λ _ _. tt) (λ c. search needs)
+    (λ c. run-says (c .before .before .before .before .run .result) (c .before .before .before .before .run .ensures) (c .stop-reply .ensures)))

@@ -9,7 +9,5 @@ pub write-event-spec : {M : Type 1} → statement M
 write-event-spec =
     tie.close
     (tie.spec
-    (λ _ _. tt)
-    (λ _ _. tt)
-    (λ c. search needs)
-    (λ c. record { says = c .event-written .ensures ∙ ap eventWritten (c .before .before .before .write-event .ensures .says); bytes = c .before .before .before .write-event .ensures .bytes }))
+    (λ _ _. tt) (λ _ _. tt) (λ c. search needs)
+    (λ c. record { says = c .event-written .ensures ∙ ap eventWritten (c .before .before .before .write-event .ensures .says); leaves = c .before .before .before .write-event .ensures .leaves }))

@@ -9,7 +9,5 @@ pub write-number-spec : {M : Type 1} → statement M
 write-number-spec =
     tie.close
     (tie.spec
-    (λ _ _. tt)
-    (λ _ _. tt)
-    (λ c. search needs)
-    (λ c. record { says = c .number-written .ensures ∙ ap numberWritten (c .before .before .before .write-number .ensures .says); bytes = c .before .before .before .write-number .ensures .bytes }))
+    (λ _ _. tt) (λ _ _. tt) (λ c. search needs)
+    (λ c. record { says = c .number-written .ensures ∙ ap numberWritten (c .before .before .before .write-number .ensures .says); leaves = c .before .before .before .write-number .ensures .leaves }))

@@ -11,6 +11,4 @@ byte-of-spec =
     tie.close
     (tie.spec
     (λ c. omega (arith, c .before .before .pre .0))
-    (λ c. omega (arith, c .before .pre .1))
-    (λ c. simp (c .before .if1 .taken))
-    (λ c. simp (ne-eqb, c .if1 .left)))
+    (λ c. omega (arith, c .before .pre .1)) (λ c. simp (c .before .if1 .taken)) (λ c. simp (ne-eqb, c .if1 .left)))

@@ -25,64 +25,46 @@ loop-again : tie.Need-loop-again Inv-loop μ-loop
 loop-again c = running-on (c .before .before .before .before .before .before .before .before .loop .inv) (c .before .before .before .before .before .before .before .loop-test .taken) (sym (c .before .before .before .before .before .before .event-at .ensures) ∙ ap tells (c .before .before .before .before .event .given .1)) (c .before .before .moved .ensures) (c .before .byte-of .ensures)
 
 returns : tie.Need-returns Inv-loop μ-loop
-returns c = halted-end (c .before .before .before .before .before .loop .inv) (end-exactly _ _ .0 (sym (c .before .before .before .event-at .ensures) ∙ ap tells (c .before .enum-told .given .1))) (c .stopped .ensures)
+returns c = halted-end (c .before .before .before .before .before .loop .inv) (c .stopped .result) (end-exactly _ _ .0 (sym (c .before .before .before .event-at .ensures) ∙ ap tells (c .before .enum-told .given .1))) (c .stopped .ensures)
 
 returns-2 : tie.Need-returns-2 Inv-loop μ-loop
-returns-2 c = halted-fault (c .before .before .before .before .before .before .loop .inv) (c .before .before .before .before .before .loop-test .taken) (sym (c .before .before .before .before .event-at .ensures) ∙ ap tells (c .before .before .first .given .1)) (c .stopped2 .ensures)
+returns-2 c = halted-fault (c .before .before .before .before .before .before .loop .inv) (c .stopped2 .result) (c .before .before .before .before .before .loop-test .taken) (sym (c .before .before .before .before .event-at .ensures) ∙ ap tells (c .before .before .first .given .1)) (c .stopped2 .ensures)
 
 returns-3 : tie.Need-returns-3 Inv-loop μ-loop
-returns-3 c = halted-fault (c .before .before .before .before .before .before .loop .inv) (c .before .before .before .before .before .loop-test .taken) (sym (c .before .before .before .before .event-at .ensures) ∙ ap tells (c .before .before .first2 .given .1)) (c .stopped3 .ensures)
+returns-3 c = halted-fault (c .before .before .before .before .before .before .loop .inv) (c .stopped3 .result) (c .before .before .before .before .before .loop-test .taken) (sym (c .before .before .before .before .event-at .ensures) ∙ ap tells (c .before .before .first2 .given .1)) (c .stopped3 .ensures)
 
 returns-4 : tie.Need-returns-4 Inv-loop μ-loop
-returns-4 c = halted-fault (c .before .before .before .before .before .before .loop .inv) (c .before .before .before .before .before .loop-test .taken) (sym (c .before .before .before .before .event-at .ensures) ∙ ap tells (c .before .before .first3 .given .1)) (c .stopped4 .ensures)
+returns-4 c = halted-fault (c .before .before .before .before .before .before .loop .inv) (c .stopped4 .result) (c .before .before .before .before .before .loop-test .taken) (sym (c .before .before .before .before .event-at .ensures) ∙ ap tells (c .before .before .first3 .given .1)) (c .stopped4 .ensures)
 
 returns-5 : tie.Need-returns-5 Inv-loop μ-loop
-returns-5 c = halted-fault (c .before .before .before .before .before .before .loop .inv) (c .before .before .before .before .before .loop-test .taken) (sym (c .before .before .before .before .event-at .ensures) ∙ ap tells (c .before .before .first4 .given .1)) (c .stopped5 .ensures)
+returns-5 c = halted-fault (c .before .before .before .before .before .before .loop .inv) (c .stopped5 .result) (c .before .before .before .before .before .loop-test .taken) (sym (c .before .before .before .before .event-at .ensures) ∙ ap tells (c .before .before .first4 .given .1)) (c .stopped5 .ensures)
 
 returns-6 : tie.Need-returns-6 Inv-loop μ-loop
-returns-6 c = halted-budget (c .before .before .before .loop .inv) (c .before .if1 .taken) (c .before .before .loop-test .left) (c .stopped6 .ensures)
+returns-6 c = halted-budget (c .before .before .before .loop .inv) (c .stopped6 .result) (c .before .if1 .taken) (c .before .before .loop-test .left) (c .stopped6 .ensures)
 
 returns-7 : tie.Need-returns-7 Inv-loop μ-loop
-returns-7 c = halted-end (c .before .before .before .loop .inv) (c .before .if1 .left) (c .stopped7 .ensures)
+returns-7 c = halted-end (c .before .before .before .loop .inv) (c .stopped7 .result) (c .before .if1 .left) (c .stopped7 .ensures)
 
 pub take-events-spec : {M : Type 1} → statement M
 take-events-spec =
     tie.close
-    (tie.spec
-    Inv-loop
-    μ-loop
-    loop-holds
-    (λ _ _. tt)
-    (λ c. search needs)
-    (λ _ _. tt)
-    byte-of-requires
+    (tie.spec Inv-loop μ-loop
+    loop-holds (λ _ _. tt) (λ c. search needs) (λ _ _. tt) byte-of-requires
     (λ c. running-room (c .before .before .before .before .before .before .before .loop .inv) (c .before .before .before .before .before .before .loop-test .taken))
     (λ c. omega (arith, c .before .before .before .before .before .before .before .loop-test .taken, c .before .before .before .before .before .before .before .before .before .before .before .fits .budget .fits))
     (λ c. omega (arith, c .before .before .before .before .before .before .before .loop-test .taken))
-    loop-again
-    (λ c. search needs)
-    (λ _ _. tt)
+    loop-again (λ c. search needs) (λ _ _. tt)
     (λ c. c .before .before .before .before .before .loop .inv .long)
-    returns
-    (λ c. search needs)
-    (λ _ _. tt)
+    returns (λ c. search needs) (λ _ _. tt)
     (λ c. c .before .before .before .before .before .before .loop .inv .long)
-    returns-2
-    (λ c. search needs)
-    (λ _ _. tt)
+    returns-2 (λ c. search needs) (λ _ _. tt)
     (λ c. c .before .before .before .before .before .before .loop .inv .long)
-    returns-3
-    (λ c. search needs)
-    (λ _ _. tt)
+    returns-3 (λ c. search needs) (λ _ _. tt)
     (λ c. c .before .before .before .before .before .before .loop .inv .long)
-    returns-4
-    (λ c. search needs)
-    (λ _ _. tt)
+    returns-4 (λ c. search needs) (λ _ _. tt)
     (λ c. c .before .before .before .before .before .before .loop .inv .long)
-    returns-5
-    (λ _ _. tt)
+    returns-5 (λ _ _. tt)
     (λ c. c .before .before .before .loop .inv .long)
-    returns-6
-    (λ _ _. tt)
+    returns-6 (λ _ _. tt)
     (λ c. c .before .before .before .loop .inv .long)
     returns-7)

@@ -31,17 +31,6 @@ returns c =
 pub event-length-spec : {M : Type 1} → statement M
 event-length-spec =
     tie.close
-    (tie.spec
-    Inv-loop
-    μ-loop
-    (λ _ _. tt)
-    (λ _ _. tt)
-    loop-holds
-    (λ c. omega arith)
-    (λ c. omega arith)
-    (λ _ _. tt)
-    add-length
-    (λ c. omega arith)
-    (λ c. omega arith)
-    loop-again
-    returns)
+    (tie.spec Inv-loop μ-loop
+    (λ _ _. tt) (λ _ _. tt) loop-holds (λ c. omega arith) (λ c. omega arith) (λ _ _. tt) add-length (λ c. omega arith)
+    (λ c. omega arith) loop-again returns)

@@ -45,30 +45,10 @@ returns-5 c = sym (ap (said _) (taken-done (c .before .loop .inv) (omega arith))
 pub read-arguments-spec : {M : Type 1} → statement M
 read-arguments-spec =
     tie.close
-    (tie.spec
-    Inv-loop
-    μ-loop
-    (λ _ _. tt)
-    (λ c. taken-start _ _ _)
-    (λ _ _. tt)
-    (λ c. search needs)
-    (λ _ _. tt)
+    (tie.spec Inv-loop μ-loop
+    (λ _ _. tt) (λ c. taken-start _ _ _) (λ _ _. tt) (λ c. search needs) (λ _ _. tt)
     (λ c. omega (arith, six-arguments (c .before .before .before .before .before .before .before .before .before .before .args .code)))
     (λ c. omega (arith, six-arguments (c .before .before .before .before .before .before .before .before .before .before .args .code)))
-    (λ c. omega arith)
-    (λ c. omega arith)
-    loop-again
-    returns
-    (λ c. search needs)
-    returns-2
-    (λ c. search needs)
-    returns-3
-    (λ c. search needs)
-    returns-4
-    (λ c. search needs)
-    (λ c. search needs)
-    (λ c. search needs)
-    (λ c. search needs)
-    (λ c. search needs)
-    (λ c. search needs)
-    returns-5)
+    (λ c. omega arith) (λ c. omega arith) loop-again returns (λ c. search needs) returns-2 (λ c. search needs)
+    returns-3 (λ c. search needs) returns-4 (λ c. search needs) (λ c. search needs) (λ c. search needs)
+    (λ c. search needs) (λ c. search needs) (λ c. search needs) returns-5)

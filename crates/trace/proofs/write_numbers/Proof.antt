@@ -40,22 +40,7 @@ returns-2 c = filling-done (c .before .loop .inv) (omega arith) ∙ ap (sets _ _
 pub write-numbers-spec : {M : Type 1} → statement M
 write-numbers-spec =
     tie.close
-    (tie.spec
-    Inv-loop
-    μ-loop
-    (λ _ _. tt)
-    (λ _ _. tt)
-    loop-holds
-    (λ c. omega arith)
-    (λ c. omega arith)
-    (λ _ _. tt)
-    (λ c. search needs)
-    add-at
-    (λ c. omega arith)
-    (λ c. omega arith)
-    filling
-    (λ c. search needs)
-    (λ c. absurd (none c))
-    (λ c. absurd (none c))
-    (λ c. c .before .loop .inv .long)
-    returns-2)
+    (tie.spec Inv-loop μ-loop
+    (λ _ _. tt) (λ _ _. tt) loop-holds (λ c. omega arith) (λ c. omega arith) (λ _ _. tt) (λ c. search needs) add-at
+    (λ c. omega arith) (λ c. omega arith) filling (λ c. search needs) (λ c. absurd (none c)) (λ c. absurd (none c))
+    (λ c. c .before .loop .inv .long) returns-2)

@@ -15,15 +15,8 @@ abbrev μ-loop : tie.MeasureT-loop
 pub take-many-spec : {M : Type 1} → statement M
 take-many-spec =
     tie.close
-    (tie.spec
-    Inv-loop
-    μ-loop
-    (λ c. taking-start _ _ _)
-    (λ _ _. tt)
-    (λ c. omega arith)
-    (λ c. omega arith)
-    (λ c. omega arith)
-    (λ c. omega arith)
+    (tie.spec Inv-loop μ-loop
+    (λ c. taking-start _ _ _) (λ _ _. tt) (λ c. omega arith) (λ c. omega arith) (λ c. omega arith) (λ c. omega arith)
     (λ c. taking-on (c .before .before .loop .inv) (c .before .loop-test .taken) (c .take .ensures))
     (λ c. c .before .loop .inv .long)
     (λ c. taking-done (c .before .loop .inv) (omega arith)))

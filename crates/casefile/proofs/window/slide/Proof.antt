@@ -32,14 +32,6 @@ pub slide-spec : {M : Type 1} → statement M
 slide-spec =
     tie.close
     (tie.spec
-    (λ _ _. tt)
-    returns
-    returns-2
+    (λ _ _. tt) returns returns-2
     (λ c κs. (c .before .before .before .if1 .left, omega (arith, c .before .before .before .before .least .ensures)))
-    room
-    room
-    (λ c. search needs)
-    (λ _ _. tt)
-    (λ c. search needs)
-    (λ c. search needs)
-    returns-3)
+    room room (λ c. search needs) (λ _ _. tt) (λ c. search needs) (λ c. search needs) returns-3)

@@ -14,16 +14,9 @@ abbrev μ-loop : tie.MeasureT-loop
 pub to-front-spec : {M : Type 1} → statement M
 to-front-spec =
     tie.close
-    (tie.spec
-    Inv-loop
-    μ-loop
+    (tie.spec Inv-loop μ-loop
     (λ c. moving-start _ _ _ (c .pre .0) (c .pre .1))
-    (λ c. omega arith)
-    (λ c. omega arith)
-    (λ c. omega arith)
-    (λ c. omega arith)
-    (λ c. omega arith)
+    (λ c. omega arith) (λ c. omega arith) (λ c. omega arith) (λ c. omega arith) (λ c. omega arith)
     (λ c. moving-on (c .before .before .loop .inv) (c .before .loop-test .taken))
-    (λ c. omega arith)
-    (λ c. c .before .loop .inv .long)
+    (λ c. omega arith) (λ c. c .before .loop .inv .long)
     (λ c. moving-done (c .before .loop .inv) (c .loop-test .left)))

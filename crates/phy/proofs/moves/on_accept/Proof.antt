@@ -8,6 +8,5 @@ unfolding onAccept
 on-accept-spec =
     tie.close
     (tie.spec
-    (λ _ _. tt)
-    (λ _ _. tt)
+    (λ _ _. tt) (λ _ _. tt)
     (λ c. simp (c .quiet .ensures, c .before .with-settings .ensures)))

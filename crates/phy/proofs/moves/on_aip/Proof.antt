@@ -10,8 +10,6 @@ unfolding onAip
 on-aip-spec =
     tie.close
     (tie.spec
-    (λ _ _. tt)
-    (λ _ _. tt)
-    (λ _ _. tt)
+    (λ _ _. tt) (λ _ _. tt) (λ _ _. tt)
     (λ c. simp (c .quiet .ensures, c .before .with-timer .ensures, c .before .before .match .keys1))
     (λ c. c .quiet2 .ensures ∙ sym (unlisted _ (aipRows (c .before .before .args .p)) _ (c .before .match .rest))))

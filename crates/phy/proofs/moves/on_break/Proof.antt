@@ -10,15 +10,7 @@ unfolding onBreak
 on-break-spec =
     tie.close
     (tie.spec
-    (λ _ _. tt)
-    (λ _ _. tt)
-    (λ _ _. tt)
-    (λ _ _. tt)
-    (λ _ _. tt)
-    (λ _ _. tt)
-    (λ _ _. tt)
-    (λ _ _. tt)
-    (λ _ _. tt)
+    (λ _ _. tt) (λ _ _. tt) (λ _ _. tt) (λ _ _. tt) (λ _ _. tt) (λ _ _. tt) (λ _ _. tt) (λ _ _. tt) (λ _ _. tt)
     (λ _ _. tt)
     (λ c. simp (c .reports .ensures, c .before .requesting .ensures, c .before .before .match .keys1))
     (λ c. simp (c .reports2 .ensures, c .before .requesting2 .ensures, c .before .before .match .keys2))

@@ -10,11 +10,7 @@ unfolding onClose
 on-close-spec =
     tie.close
     (tie.spec
-    (λ _ _. tt)
-    (λ _ _. tt)
-    (λ _ _. tt)
-    (λ _ _. tt)
-    (λ _ _. tt)
+    (λ _ _. tt) (λ _ _. tt) (λ _ _. tt) (λ _ _. tt) (λ _ _. tt)
     (λ c. simp (c .quiet .ensures, c .before .connected .ensures, c .before .before .match .keys1))
     (λ c. simp (c .reports .ensures, c .before .idle .ensures, c .before .before .match .keys2))
     (λ c. c .quiet2 .ensures ∙ sym (unlisted _ (closeRows (c .before .before .before .args .p)) _ (c .before .match .rest))))

@@ -9,11 +9,9 @@ unfolding onCloseConnection
 on-close-connection-spec =
     tie.close
     (tie.spec
-    (λ _ _. tt)
-    (λ _ _. tt)
+    (λ _ _. tt) (λ _ _. tt)
     (λ c. simp (c .reports .ensures, c .before .idle .ensures, eq-eqb _ _ (c .before .before .if2 .taken), eq-eqb _ _ (c .before .before .before .before .if1 .taken)))
-    (λ _ _. tt)
-    (λ _ _. tt)
+    (λ _ _. tt) (λ _ _. tt)
     (λ c. simp (c .reports2 .ensures, c .before .connected .ensures, ne-eqb _ _ (c .before .before .if2 .left), eq-eqb _ _ (c .before .before .before .before .if1 .taken)))
     (λ _ _. tt)
     (λ c. simp (c .refused .ensures, ne-eqb _ _ (c .before .if1 .left))))

@@ -10,8 +10,6 @@ unfolding onOpenAccept
 on-open-accept-spec =
     tie.close
     (tie.spec
-    (λ _ _. tt)
-    (λ _ _. tt)
-    (λ _ _. tt)
+    (λ _ _. tt) (λ _ _. tt) (λ _ _. tt)
     (λ c. simp (c .answers .ensures, c .before .connected .ensures, c .before .before .match .keys1))
     (λ c. c .quiet .ensures ∙ sym (unlisted _ (openAcceptRows (c .before .before .before .before .args .p)) _ (c .before .match .rest))))

@@ -10,11 +10,7 @@ unfolding onOpenReceived
 on-open-received-spec =
     tie.close
     (tie.spec
-    (λ _ _. tt)
-    (λ _ _. tt)
-    (λ _ _. tt)
-    (λ _ _. tt)
-    (λ _ _. tt)
+    (λ _ _. tt) (λ _ _. tt) (λ _ _. tt) (λ _ _. tt) (λ _ _. tt)
     (λ c. simp (c .quiet .ensures, c .before .selected .ensures, c .before .before .match .keys1))
     (λ c. simp (c .quiet2 .ensures, c .before .selected2 .ensures, c .before .before .match .keys2))
     (λ c. c .quiet3 .ensures ∙ sym (unlisted _ (openRows (c .before .before .before .before .args .p) (c .before .before .before .before .args .e)) _ (c .before .match .rest))))

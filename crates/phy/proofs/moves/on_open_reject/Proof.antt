@@ -10,11 +10,7 @@ unfolding onOpenReject
 on-open-reject-spec =
     tie.close
     (tie.spec
-    (λ _ _. tt)
-    (λ _ _. tt)
-    (λ _ _. tt)
-    (λ _ _. tt)
-    (λ _ _. tt)
+    (λ _ _. tt) (λ _ _. tt) (λ _ _. tt) (λ _ _. tt) (λ _ _. tt)
     (λ c. simp (c .answers .ensures, c .before .reject-answer .ensures, c .before .before .idle .ensures, c .before .before .before .match .keys1))
     (λ c. simp (c .to-idle .ensures, c .before .match .keys2))
     (λ c. c .quiet .ensures ∙ sym (unlisted _ (openRejectRows (c .before .before .before .before .args .p) (c .before .before .before .before .args .e)) _ (c .before .match .rest))))

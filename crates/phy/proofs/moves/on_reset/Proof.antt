@@ -10,10 +10,7 @@ unfolding onReset
 on-reset-spec =
     tie.close
     (tie.spec
-    (λ _ _. tt)
-    (λ _ _. tt)
-    (λ _ _. tt)
-    (λ _ _. tt)
+    (λ _ _. tt) (λ _ _. tt) (λ _ _. tt) (λ _ _. tt)
     (λ c. simp (c .answers .ensures, c .before .match .keys1))
     (λ c. simp (c .answers2 .ensures, c .before .match .keys2))
     (λ c. simp (c .reports .ensures, c .before .match .keys3))

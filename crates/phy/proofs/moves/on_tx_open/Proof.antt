@@ -9,8 +9,7 @@ unfolding onTxOpen
 on-tx-open-spec =
     tie.close
     (tie.spec
-    (λ _ _. tt)
-    (λ _ _. tt)
+    (λ _ _. tt) (λ _ _. tt)
     (λ c. simp (c .open-by-link .ensures, c .before .open-of .ensures, eq-eqb _ _ (c .before .before .if1 .taken)))
     (λ _ _. tt)
     (λ c. simp (c .refused .ensures, ne-eqb _ _ (c .before .if1 .left))))

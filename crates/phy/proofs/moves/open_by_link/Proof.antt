@@ -10,13 +10,7 @@ unfolding openByLink
 open-by-link-spec =
     tie.close
     (tie.spec
-    (λ _ _. tt)
-    (λ _ _. tt)
-    (λ _ _. tt)
-    (λ _ _. tt)
-    (λ _ _. tt)
-    (λ _ _. tt)
-    (λ _ _. tt)
+    (λ _ _. tt) (λ _ _. tt) (λ _ _. tt) (λ _ _. tt) (λ _ _. tt) (λ _ _. tt) (λ _ _. tt)
     (λ c. simp (c .reports .ensures, c .before .requesting .ensures, c .before .before .match .keys1))
     (λ c. simp (c .reports2 .ensures, c .before .selected .ensures, c .before .before .match .keys2))
     (λ c. simp (c .reports3 .ensures, c .before .requesting2 .ensures, c .before .before .match .keys3))

@@ -10,14 +10,7 @@ unfolding toIdle
 to-idle-spec =
     tie.close
     (tie.spec
-    (λ _ _. tt)
-    (λ _ _. tt)
-    (λ _ _. tt)
-    (λ _ _. tt)
-    (λ _ _. tt)
-    (λ _ _. tt)
-    (λ _ _. tt)
-    (λ _ _. tt)
+    (λ _ _. tt) (λ _ _. tt) (λ _ _. tt) (λ _ _. tt) (λ _ _. tt) (λ _ _. tt) (λ _ _. tt) (λ _ _. tt)
     (λ c. simp (c .answers .ensures, c .before .idle .ensures, c .before .before .match .keys1))
     (λ c. simp (c .answers2 .ensures, c .before .idle2 .ensures, c .before .before .match .keys2))
     (λ c. simp (c .reports .ensures, c .before .idle3 .ensures, c .before .before .match .keys3))

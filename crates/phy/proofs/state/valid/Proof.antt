@@ -9,10 +9,7 @@ unfolding validOf
 valid-spec =
     tie.close
     (tie.spec
-    (λ _ _. tt)
-    (λ _ _. tt)
-    (λ _ _. tt)
-    (λ _ _. tt)
+    (λ _ _. tt) (λ _ _. tt) (λ _ _. tt) (λ _ _. tt)
     (λ c. simp (c .valid-idle .ensures, c .before .match .keys1))
     (λ c. simp (c .valid-requesting .ensures, c .before .match .keys2))
     (λ c. simp (c .valid-connected .ensures, c .before .match .keys3))

@@ -10,14 +10,7 @@ unfolding validInbound validRequest
 valid-connected-spec =
     tie.close
     (tie.spec
-    (λ _ _. tt)
-    (λ _ _. tt)
-    (λ _ _. tt)
-    (λ _ _. tt)
-    (λ _ _. tt)
-    (λ _ _. tt)
-    (λ _ _. tt)
-    (λ _ _. tt)
+    (λ _ _. tt) (λ _ _. tt) (λ _ _. tt) (λ _ _. tt) (λ _ _. tt) (λ _ _. tt) (λ _ _. tt) (λ _ _. tt)
     (λ c. simp (c .before .nobody .ensures, c .before .before .match .keys1, c .before .before .before .before .before .before .is-no-open .ensures, c .before .before .before .before .before .before .before .valid-settings .ensures, or-false))
     (λ c. simp (c .nobody2 .ensures, c .before .runs .ensures, c .before .before .match .keys2, c .before .before .before .before .before .before .is-no-open .ensures, c .before .before .before .before .before .before .before .valid-settings .ensures, or-false))
     (λ c. simp (c .nobody3 .ensures, c .before .runs2 .ensures, c .before .before .match .keys3, c .before .before .before .before .before .before .is-no-open .ensures, c .before .before .before .before .before .before .before .valid-settings .ensures, or-false))

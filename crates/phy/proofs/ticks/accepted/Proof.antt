@@ -10,10 +10,6 @@ unfolding accepted
 accepted-spec =
     tie.close
     (tie.spec
-    (λ _ _. tt)
-    (λ _ _. tt)
-    (λ _ _. tt)
-    (λ _ _. tt)
-    (λ _ _. tt)
+    (λ _ _. tt) (λ _ _. tt) (λ _ _. tt) (λ _ _. tt) (λ _ _. tt)
     (λ c. simp (c .answers .ensures, c .before .opened-by .ensures, c .before .before .connected .ensures, c .before .before .before .match .keys1))
     (λ c. simp (c .reports .ensures, c .before .connected2 .ensures) (sym (unlisted _ (acceptRows (c .before .before .before .before .before .args .p)) _ (c .before .before .match .rest)))))

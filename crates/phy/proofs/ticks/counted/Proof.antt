@@ -7,7 +7,5 @@ pub counted-spec : {M : Type 1} → statement M
 counted-spec =
     tie.close
     (tie.spec
-    (λ c. omega (arith, c .before .pre))
-    (λ _ _. tt)
-    (λ _ _. tt)
+    (λ c. omega (arith, c .before .pre)) (λ _ _. tt) (λ _ _. tt)
     (λ c. simp (c .quiet .ensures, c .before .with-timer .ensures)))

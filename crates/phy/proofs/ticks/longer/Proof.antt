@@ -10,6 +10,4 @@ unfolding longer
 longer-spec =
     tie.close
     (tie.spec
-    (λ c. simp (le-leb _ _ (c .if1 .taken)))
-    (λ c. omega arith)
-    (λ c. simp (lt-leb _ _ (c .before .if1 .left))))
+    (λ c. simp (le-leb _ _ (c .if1 .taken))) (λ c. omega arith) (λ c. simp (lt-leb _ _ (c .before .if1 .left))))

@@ -10,12 +10,7 @@ unfolding onTickAged
 on-tick-aged-spec =
     tie.close
     (tie.spec
-    (λ _ _. tt)
-    (λ _ _. tt)
-    (λ _ _. tt)
-    (λ _ _. tt)
-    (λ _ _. tt)
-    (λ _ _. tt)
+    (λ _ _. tt) (λ _ _. tt) (λ _ _. tt) (λ _ _. tt) (λ _ _. tt) (λ _ _. tt)
     (λ c. simp (c .tick-requesting .ensures, c .before .match .keys1))
     (λ c. simp (c .tick-closing .ensures, c .before .match .keys2))
     (λ c. simp (c .tick-breaking .ensures, c .before .match .keys3))

@@ -18,20 +18,10 @@ abbrev μ-loop : tie.MeasureT-loop
 pub put-listing-spec : {M : Type 1} → statement M
 put-listing-spec =
     tie.close
-    (tie.spec
-    Inv-loop
-    μ-loop
-    (λ _ _. tt)
-    (λ c. search needs)
-    (λ _ _. tt)
-    (λ c. search needs)
+    (tie.spec Inv-loop μ-loop
+    (λ _ _. tt) (λ c. search needs) (λ _ _. tt) (λ c. search needs)
     (λ c. omega (arith, written-advances _ _ _ _ _ _ _ _ (c .before .before .before .before .before .before .next-line .ensures) (ap tellsWritten (c .before .before .next .given .1)) .within))
     (λ _ _. tt)
     (λ c. written-advances _ _ _ _ _ _ _ _ (c .before .before .before .before .before .before .before .next-line .ensures) (ap tellsWritten (c .before .before .before .next .given .1)) .fewer)
-    (λ c. search needs)
-    (λ c. search needs)
-    (λ c. search needs)
-    (λ c. search needs)
-    (λ c. search needs)
-    (λ c. search needs)
-    (λ c. search needs))
+    (λ c. search needs) (λ c. search needs) (λ c. search needs) (λ c. search needs) (λ c. search needs)
+    (λ c. search needs) (λ c. search needs))

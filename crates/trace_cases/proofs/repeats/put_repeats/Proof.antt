@@ -16,23 +16,9 @@ abbrev μ-loop : tie.MeasureT-loop
 pub put-repeats-spec : {M : Type 1} → statement M
 put-repeats-spec =
     tie.close
-    (tie.spec
-    Inv-loop
-    μ-loop
-    (λ c. search needs)
-    (λ _ _. tt)
-    (λ c. search needs)
-    (λ c. search needs)
-    (λ c. search needs)
-    (λ c. search needs)
+    (tie.spec Inv-loop μ-loop
+    (λ c. search needs) (λ _ _. tt) (λ c. search needs) (λ c. search needs) (λ c. search needs) (λ c. search needs)
     (λ _ _. tt)
     (λ c. omega (arith, c .before .before .shared-slice-known2 .given (c .before .before .before .before .loop .i)))
-    (λ c. search needs)
-    (λ _ _. tt)
-    (λ c. search needs)
-    (λ c. search needs)
-    (λ c. search needs)
-    (λ c. search needs)
-    (λ _ _. tt)
-    (λ c. search needs)
-    (λ c. search needs))
+    (λ c. search needs) (λ _ _. tt) (λ c. search needs) (λ c. search needs) (λ c. search needs) (λ c. search needs)
+    (λ _ _. tt) (λ c. search needs) (λ c. search needs))
