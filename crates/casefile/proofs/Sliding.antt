@@ -98,7 +98,7 @@ ahead-kept before ahead r after s =
     let d : ReadsOn before ahead r after = rw (f, g) at (s .does) in
     rw (part, length-slice from to before (omega arith), d .start) (take-take (to - from) (r .to) after (d .more) ∙ d .front)))
 
--- nothing is read where nothing or enough is ahead, and then the answer and the window are the definition's
+-- nothing is read where nothing or enough is ahead, and then the result and the window are the definition's
 slide-determined :
     (before : List ℕ) (ahead : Ahead) → noneAhead before ahead || enoughAhead before ahead ≡ true → DeterminesLent (Slides before ahead)
 slide-determined before ahead h r q after later a b =

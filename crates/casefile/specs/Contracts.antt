@@ -8,7 +8,7 @@ use lib.Seq.{slice}
 use Rattle.table.specs.Choice.{pick}
 use Rattle.table.specs.Results.{Leaves}
 use Rattle.casefile.specs.Reading.{taken, partAt, numbersAt, placeAfter}
-use Rattle.casefile.specs.Records.{phyNumbers, phyOf, eventOf}
+use Rattle.casefile.specs.Records.{phyNumbers, phyOf, eventFrom}
 use Rattle.casefile.specs.Window.{endAhead, countAhead, noneAhead, enoughAhead, aheadOf, aheadAfter, isOver}
 use Rattle.casefile.specs.declared.Taken.{Taken}
 use Rattle.casefile.specs.declared.Part.{Part}
@@ -44,7 +44,7 @@ abbrev pub GivesNumbers : Phy → List ℕ → Type 0
 GivesNumbers p r = r ≡ phyNumbers p
 
 abbrev pub MakesEvent : List ℕ → Event → Type 0
-MakesEvent f r = r ≡ eventOf f
+MakesEvent f r = r ≡ eventFrom f
 
 -- `to_front` of a part of the window `before`, which leaves it as `after`
 pub record MovesToFront (before : List ℕ) (from to r : ℕ) (after : List ℕ) : Type 0 where

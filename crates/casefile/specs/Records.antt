@@ -55,8 +55,8 @@ phyOf f =
     }
 
 -- the event of numbers: its code and six arguments
-abbrev pub eventOf : List ℕ → Event
-eventOf f =
+abbrev pub eventFrom : List ℕ → Event
+eventFrom f =
     record {
       code = getD f 0 0;
       first = getD f 1 0;

@@ -6,7 +6,10 @@ ghost use Rattle.phy.specs.Contracts.{StartsFresh};
 use crate::Phy;
 use crate::Settings;
 use crate::Stepped;
-use crate::names::*;
+use crate::names::L0;
+use crate::names::L2;
+use crate::names::P1;
+use crate::names::P3;
 use event::Open;
 use table::OFF;
 
@@ -130,19 +133,6 @@ pub(crate) fn with_settings(p: Phy, settings: Settings) -> Phy
     next
 }
 
-pub(crate) fn reports(next: Phy, notice: u64, sent: u64) -> Stepped
-    ensures { λ r. ⌜ r ≡ Shapes·reports next notice sent ⌝ }
-{
-    Stepped {
-        next,
-        answered: NO_OPEN,
-        answer: 0,
-        notice,
-        sent,
-        refusal: 0,
-    }
-}
-
 // With the arguments of the Open that is answered.
 pub(crate) fn answers(next: Phy, answer: u64, request: Open, notice: u64, sent: u64) -> Stepped
     ensures { λ r. ⌜ r ≡ Shapes·answers next answer request notice sent ⌝ }
@@ -151,6 +141,19 @@ pub(crate) fn answers(next: Phy, answer: u64, request: Open, notice: u64, sent: 
         next,
         answered: request,
         answer,
+        notice,
+        sent,
+        refusal: 0,
+    }
+}
+
+pub(crate) fn reports(next: Phy, notice: u64, sent: u64) -> Stepped
+    ensures { λ r. ⌜ r ≡ Shapes·reports next notice sent ⌝ }
+{
+    Stepped {
+        next,
+        answered: NO_OPEN,
+        answer: 0,
         notice,
         sent,
         refusal: 0,
