@@ -56,6 +56,36 @@ static size_t write_trace(void)
     return length;
 }
 
+/* Each number with zero groups at its end, up to its ten, where they have room. */
+static size_t padded_trace(size_t length)
+{
+    uint8_t padded[MOST_TRACE];
+    size_t at = 0;
+    size_t next;
+
+    for (size_t place = 0; place < length; place = next) {
+        size_t groups;
+        size_t more;
+
+        next = number_read(trace, length, place).next;
+        groups = next - place;
+        if (groups == 0) {
+            return length;
+        }
+        more = random_below(NUMBER_MOST_BYTES + 1 - groups);
+        memcpy(padded + at, trace + place, groups);
+        at += groups;
+        if (more > 0 && at + more + (length - next) <= MOST_TRACE) {
+            padded[at - 1] |= 0x80u;
+            memset(padded + at, 0x80, more - 1);
+            padded[at + more - 1] = 0;
+            at += more;
+        }
+    }
+    memcpy(trace, padded, at);
+    return at;
+}
+
 static size_t damaged_trace(size_t length)
 {
     if (length > 0 && one_in(2)) {
@@ -116,7 +146,8 @@ void walk_trace(struct louravela_phy phy)
     for (size_t i = 0; i < MOST_TRACE; i++) {
         trace[i] = (uint8_t)random_below(256);
     }
-    length = damaged_trace(write_trace());
+    length = write_trace();
+    length = damaged_trace(one_in(2) ? padded_trace(length) : length);
     for (size_t place = 0; place <= length; place++) {
         read_both(length, place);
     }

@@ -8,6 +8,12 @@
 /* ---- Runs ---- */
 
 static const uint8_t sample[] = {0x01, 0x05, 0x01, 0x09, 0xAC, 0x02, 0x00, 0x00, 0x0B, 0x0D};
+/* The same with numbers padded: the Tx Open's code in two bytes, its destination in ten. */
+static const uint8_t padded[] = {
+    0x81, 0x00, 0x85, 0x80, 0x80, 0x80, 0x80, 0x80, 0x80, 0x80, 0x80, 0x00,
+    0x81, 0x80, 0x00, 0x89, 0x00, 0xAC, 0x82, 0x80, 0x00, 0x80, 0x00, 0x00,
+    0x8B, 0x80, 0x80, 0x00, 0x0D
+};
 static const uint8_t sample_bytes[] = {0, 0, LOURAVELA_ANSWER_BREAK_RECEIVED};
 
 static void expect_ran(int line, struct louravela_run_reply ran, size_t count, uint64_t how, uint64_t fault, size_t place)
@@ -35,14 +41,25 @@ static void expect_run_refused(int line, struct louravela_phy phy, size_t budget
 
 #define EXPECT_RUN_REFUSED(phy, budget, length, refusal) expect_run_refused(__LINE__, phy, budget, length, refusal)
 
+static void expect_whole_run(int line, const uint8_t *trace, size_t length)
+{
+    struct louravela_phy fresh = louravela_phy_fresh();
+    struct louravela_run_reply ran = louravela_phy_run(fresh, trace, length, ROOM, lend(), ROOM);
+
+    expect_ran(line, ran, 3, LOURAVELA_STOPPED_AT_END, 0, 0);
+    expect(line, "the phy after the run", memcmp(&ran.next, &fresh, sizeof fresh) == 0, 1);
+    expect_room(line, 0, sample_bytes, 3);
+}
+
+#define EXPECT_WHOLE_RUN(trace) expect_whole_run(__LINE__, trace, sizeof(trace))
+
 static void test_runs(void)
 {
     struct louravela_phy fresh = louravela_phy_fresh();
-    struct louravela_run_reply ran = louravela_phy_run(fresh, sample, sizeof sample, ROOM, lend(), ROOM);
+    struct louravela_run_reply ran;
 
-    EXPECT_RAN(ran, 3, LOURAVELA_STOPPED_AT_END, 0, 0);
-    EXPECT_SAME(ran.next, fresh);
-    EXPECT_ROOM(0, sample_bytes, 3);
+    EXPECT_WHOLE_RUN(sample);
+    EXPECT_WHOLE_RUN(padded);
     /* the budget, and a buffer that is just as long */
     ran = louravela_phy_run(fresh, sample, sizeof sample, 2, lend(), 2);
     EXPECT_RAN(ran, 2, LOURAVELA_STOPPED_AT_BUDGET, 0, 0);
@@ -63,7 +80,8 @@ static void test_run_faults(void)
 {
     struct louravela_phy fresh = louravela_phy_fresh();
     static const uint8_t bad_event[] = {0x0D, 0x10};
-    static const uint8_t overlong[] = {0x0D, 0x0D, 0x8D, 0x00};
+    /* two ticks, the second padded, and then a padded code that no event has */
+    static const uint8_t padded_16[] = {0x0D, 0x8D, 0x80, 0x00, 0x90, 0x00};
     static const uint8_t too_large[] = {0x07, 0x80, 0x80, 0x80, 0x80, 0x80, 0x80, 0x80, 0x80, 0x80, 0x02};
     struct louravela_run_reply ran = louravela_phy_run(fresh, bad_event, sizeof bad_event, ROOM, lend(), ROOM);
 
@@ -71,8 +89,8 @@ static void test_run_faults(void)
     ran = louravela_phy_run(fresh, sample, 7, ROOM, lend(), ROOM);
     EXPECT_RAN(ran, 0, LOURAVELA_STOPPED_AT_FAULT, LOURAVELA_CUT, 0);
     EXPECT_ROOM(0, room, 0);
-    ran = louravela_phy_run(fresh, overlong, sizeof overlong, ROOM, lend(), ROOM);
-    EXPECT_RAN(ran, 2, LOURAVELA_STOPPED_AT_FAULT, LOURAVELA_OVERLONG, 2);
+    ran = louravela_phy_run(fresh, padded_16, sizeof padded_16, ROOM, lend(), ROOM);
+    EXPECT_RAN(ran, 2, LOURAVELA_STOPPED_AT_FAULT, LOURAVELA_BAD_EVENT, 4);
     ran = louravela_phy_run(fresh, too_large, sizeof too_large, ROOM, lend(), ROOM);
     EXPECT_RAN(ran, 0, LOURAVELA_STOPPED_AT_FAULT, LOURAVELA_TOO_LARGE, 0);
     /* a refused event counts as taken, and the refusal is its byte */
@@ -125,7 +143,7 @@ static void test_event_reads(void)
     struct louravela_event wanted = {LOURAVELA_TX_OPEN, 5, 1, 9, 300, 0, 0};
     static const uint8_t code_16[] = {0x10};
     static const uint8_t rate_7[] = {0x01, 0x05, 0x01, 0x07};
-    static const uint8_t long_code[] = {0x90, 0x00};
+    static const uint8_t padded_16[] = {0x90, 0x00};
     static const uint8_t large[] = {0x07, 0xFF, 0xFF, 0xFF, 0xFF, 0xFF, 0xFF, 0xFF, 0xFF, 0xFF, 0x80};
 
     EXPECT(found.how, LOURAVELA_FOUND_EVENT);
@@ -133,6 +151,9 @@ static void test_event_reads(void)
     EXPECT(found.next, 8);
     EXPECT_SAME(found.event, wanted);
     EXPECT(louravela_event_read(sample, sizeof sample, 9).next, 10);
+    found = louravela_event_read(padded, sizeof padded, 0);
+    EXPECT(found.next, 24);
+    EXPECT_SAME(found.event, wanted);
     EXPECT_END(sizeof sample, sizeof sample);
     EXPECT_END(sizeof sample, sizeof sample + 1);
     EXPECT_END(sizeof sample, SIZE_MAX);
@@ -141,7 +162,7 @@ static void test_event_reads(void)
     EXPECT_FAULT(rate_7, sizeof rate_7, 0, LOURAVELA_BAD_EVENT);
     EXPECT_FAULT(sample, 5, 0, LOURAVELA_CUT);
     EXPECT_FAULT(sample, 1, 0, LOURAVELA_CUT);
-    EXPECT_FAULT(long_code, sizeof long_code, 0, LOURAVELA_OVERLONG);
+    EXPECT_FAULT(padded_16, sizeof padded_16, 0, LOURAVELA_BAD_EVENT);
     EXPECT_FAULT(large, sizeof large, 0, LOURAVELA_TOO_LARGE);
 }
 
@@ -182,6 +203,18 @@ static void test_event_writes(void)
 
 /* ---- Numbers ---- */
 
+/* All of the bytes are the number. */
+static void expect_number(int line, const uint8_t *bytes, size_t length, uint64_t value)
+{
+    struct louravela_number_reply found = louravela_number_read(bytes, length, 0);
+
+    expect(line, "the refusal", found.refusal, LOURAVELA_NOT_REFUSED);
+    expect(line, "the value", found.value, value);
+    expect(line, "the place", found.next, length);
+}
+
+#define EXPECT_NUMBER(bytes, value) expect_number(__LINE__, bytes, sizeof(bytes), value)
+
 static void expect_no_number(int line, const uint8_t *bytes, size_t length, size_t place, uint64_t refusal)
 {
     struct louravela_number_reply found = louravela_number_read(bytes, length, place);
@@ -201,17 +234,15 @@ static void test_number_reads(void)
     static const uint8_t m12[] = {0x80, 0x00};
     static const uint8_t tenth_zero[] = {0xFF, 0xFF, 0xFF, 0xFF, 0xFF, 0xFF, 0xFF, 0xFF, 0xFF, 0x00};
     static const uint8_t tenth_two[] = {0x80, 0x80, 0x80, 0x80, 0x80, 0x80, 0x80, 0x80, 0x80, 0x02};
-    struct louravela_number_reply found = louravela_number_read(m11, sizeof m11, 0);
+    static const uint8_t tenth_more[] = {0x80, 0x80, 0x80, 0x80, 0x80, 0x80, 0x80, 0x80, 0x80, 0x80};
 
-    EXPECT(found.value, 300);
-    EXPECT(found.next, 2);
-    EXPECT(found.refusal, 0);
-    found = louravela_number_read(greatest, sizeof greatest, 0);
-    EXPECT(found.value, UINT64_MAX);
-    EXPECT(found.next, 10);
-    EXPECT_NO_NUMBER(m12, sizeof m12, 0, LOURAVELA_OVERLONG);
-    EXPECT_NO_NUMBER(tenth_zero, sizeof tenth_zero, 0, LOURAVELA_OVERLONG);
+    EXPECT_NUMBER(m11, 300);
+    EXPECT_NUMBER(m12, 0);
+    EXPECT_NUMBER(greatest, UINT64_MAX);
+    EXPECT_NUMBER(tenth_zero, INT64_MAX);
     EXPECT_NO_NUMBER(tenth_two, sizeof tenth_two, 0, LOURAVELA_TOO_LARGE);
+    EXPECT_NO_NUMBER(tenth_more, sizeof tenth_more, 0, LOURAVELA_TOO_LARGE);
+    EXPECT_NO_NUMBER(tenth_more, 9, 0, LOURAVELA_CUT);
     EXPECT_NO_NUMBER(greatest, 9, 0, LOURAVELA_CUT);
     EXPECT_NO_NUMBER(m11, 1, 0, LOURAVELA_CUT);
     EXPECT_NO_NUMBER(m11, 0, 0, LOURAVELA_CUT);

@@ -24,7 +24,7 @@
 #include <stdint.h>
 
 /* The version of this header and of the archives that are built beside it. */
-#define LOURAVELA_VERSION "4.2.0"
+#define LOURAVELA_VERSION "4.3.0"
 
 #ifdef __cplusplus
 extern "C" {
@@ -41,7 +41,7 @@ enum {
     LOURAVELA_NOT_CONNECTED = 5,   /* Close or SMP Break, and the link is not in L3 */
     LOURAVELA_WRONG_PROTOCOL = 6,  /* SMP Break in L3 on a connection that is not SMP */
     LOURAVELA_CUT = 7,             /* a number's bytes end too early */
-    LOURAVELA_OVERLONG = 8,        /* a number is not in its shortest form */
+    LOURAVELA_OVERLONG = 8,        /* no longer given, since a number may be padded; 8 stays taken */
     LOURAVELA_TOO_LARGE = 9,       /* a number is 2^64 or more */
     LOURAVELA_NO_ROOM = 10         /* the lent buffer is too short */
 };
@@ -192,7 +192,7 @@ struct louravela_run_reply {
     struct louravela_phy next;
     size_t count;     /* events taken; a refused event counts as taken */
     uint64_t how;     /* where nothing is refused */
-    uint64_t fault;   /* stopped at a fault: its number, 2, 7, 8 or 9, else 0 */
+    uint64_t fault;   /* stopped at a fault: its number, 2, 7 or 9, else 0 */
     size_t place;     /* and the place of the event's first byte, else 0 */
     uint64_t refusal; /* 0, 1 or 10 */
 };
@@ -225,7 +225,7 @@ struct louravela_event_reply {
     struct louravela_event event;
     size_t next;      /* the place after the event */
     uint64_t how;
-    uint64_t refusal; /* on a fault its number, 2, 7, 8 or 9, else 0 */
+    uint64_t refusal; /* on a fault its number, 2, 7 or 9, else 0 */
 };
 
 /* What writing an event or a number gives. */
@@ -247,13 +247,13 @@ struct louravela_write_reply louravela_event_write(struct louravela_event event,
 struct louravela_number_reply {
     uint64_t value;
     size_t next;      /* the place after the number */
-    uint64_t refusal; /* 0, 7, 8 or 9 */
+    uint64_t refusal; /* 0, 7 or 9 */
 };
 
-/* The number at any place; at the end or past it, it is cut. */
+/* The number at any place, of 1 to 10 bytes, zero groups at its end among them; at the end or past it, it is cut. */
 struct louravela_number_reply louravela_number_read(const uint8_t *bytes, size_t length, size_t place);
 
-/* A value's bytes, 1 to 10, at a place of a buffer. Refused, no byte is changed. */
+/* A value's bytes, 1 to 10 and no more than it needs, at a place of a buffer. Refused, no byte is changed. */
 struct louravela_write_reply louravela_number_write(uint64_t value, uint8_t *buffer, size_t buffer_length,
                                                     size_t place);
 

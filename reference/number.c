@@ -6,7 +6,8 @@ enum {
     GROUP_BITS = 7,
     GROUP_MASK = 0x7F,
     ANOTHER_FOLLOWS = 0x80,
-    LAST_GROUP = NUMBER_MOST_BYTES - 1
+    LAST_GROUP = NUMBER_MOST_BYTES - 1,
+    LAST_GROUP_MOST = 1
 };
 
 static struct number_read number_fault(uint64_t refusal, size_t place)
@@ -14,48 +15,49 @@ static struct number_read number_fault(uint64_t refusal, size_t place)
     return (struct number_read){.refusal = refusal, .value = 0, .next = place};
 }
 
+static struct number_read number_taken(uint64_t value, size_t next)
+{
+    return (struct number_read){.refusal = NOT_REFUSED, .value = value, .next = next};
+}
+
+/* A group of zero adds nothing to the value wherever it stands, so padding needs no rule of its own. */
+static uint64_t group_value(uint8_t byte, unsigned group)
+{
+    return (uint64_t)(byte & GROUP_MASK) << (GROUP_BITS * group);
+}
+
 /* The tenth byte is judged whole: bit 63 is the only one left, so even its high bit is too much. */
-static uint64_t tenth_byte_refusal(uint8_t byte)
+static struct number_read last_group_read(uint64_t value, uint8_t byte, size_t place)
 {
-    if (byte == 0) {
-        return REFUSED_OVERLONG;
+    if (byte > LAST_GROUP_MOST) {
+        return number_fault(REFUSED_TOO_LARGE, place);
     }
-    if (byte > 1) {
-        return REFUSED_TOO_LARGE;
-    }
-    return NOT_REFUSED;
+    return number_taken(value | group_value(byte, LAST_GROUP), place + NUMBER_MOST_BYTES);
 }
 
-static uint64_t byte_refusal(uint8_t byte, unsigned group)
-{
-    if (group == LAST_GROUP) {
-        return tenth_byte_refusal(byte);
-    }
-    if (byte == 0 && group > 0) {
-        return REFUSED_OVERLONG;
-    }
-    return NOT_REFUSED;
-}
-
+/* Nine groups of seven bits always fit in the value, so only the tenth is judged, and that after the loop. */
 struct number_read number_read(const uint8_t *bytes, size_t length, size_t place)
 {
     uint64_t value = 0;
     size_t next = place;
 
-    for (unsigned group = 0; next < length; group++) {
-        uint8_t byte = bytes[next];
-        uint64_t refusal = byte_refusal(byte, group);
-
-        if (refusal != NOT_REFUSED) {
-            return number_fault(refusal, place);
+    for (unsigned group = 0; group < LAST_GROUP; group++) {
+        if (next >= length) {
+            return number_fault(REFUSED_CUT, place);
         }
+
+        uint8_t byte = bytes[next];
+
         next++;
-        value |= (uint64_t)(byte & GROUP_MASK) << (GROUP_BITS * group);
+        value |= group_value(byte, group);
         if ((byte & ANOTHER_FOLLOWS) == 0) {
-            return (struct number_read){.refusal = NOT_REFUSED, .value = value, .next = next};
+            return number_taken(value, next);
         }
     }
-    return number_fault(REFUSED_CUT, place);
+    if (next >= length) {
+        return number_fault(REFUSED_CUT, place);
+    }
+    return last_group_read(value, bytes[next], place);
 }
 
 size_t number_length(uint64_t value)

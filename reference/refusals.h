@@ -10,6 +10,7 @@ enum refusal {
     REFUSED_NOT_CONNECTED = 5,
     REFUSED_WRONG_PROTOCOL = 6,
     REFUSED_CUT = 7,
+    /* Given no longer, since numbers may be padded; its number stays taken. */
     REFUSED_OVERLONG = 8,
     REFUSED_TOO_LARGE = 9,
     REFUSED_NO_ROOM = 10

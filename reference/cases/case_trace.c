@@ -9,6 +9,7 @@ enum {
     ANOTHER_FOLLOWS = 0x80,
     ALL_BITS = 0xFF,
     TENTH_TOO_LARGE = 2,
+    PADDED_GROUPS = 5,
     /* No argument but an address takes it, and it is no code. */
     OUT_OF_RANGE = 70000
 };
@@ -41,11 +42,22 @@ void add_padded(struct byte_string *string, uint64_t value, size_t groups)
 {
     size_t needed = number_length(value);
 
-    assert(groups > needed);
+    assert(groups >= needed && groups <= NUMBER_MOST_BYTES);
     add_number(string, value);
-    string->bytes[string->length - 1] |= ANOTHER_FOLLOWS;
-    add_fill(string, ANOTHER_FOLLOWS, groups - needed - 1);
-    add_byte(string, 0);
+    for (size_t i = needed; i < groups; i++) {
+        string->bytes[string->length - 1] |= ANOTHER_FOLLOWS;
+        add_byte(string, 0);
+    }
+}
+
+void add_randomly_padded(struct case_file *file, struct byte_string *string, uint64_t value, size_t most)
+{
+    size_t groups = number_length(value);
+
+    if (groups < most) {
+        groups += (size_t)case_random_below(file, most - groups + 1);
+    }
+    add_padded(string, value, groups);
 }
 
 void add_fault(struct byte_string *string, enum number_fault fault)
@@ -54,15 +66,20 @@ void add_fault(struct byte_string *string, enum number_fault fault)
     case FAULT_OUT_OF_RANGE:
         add_number(string, OUT_OF_RANGE);
         return;
-    case FAULT_OVERLONG:
-        add_padded(string, 1, 2);
+    case FAULT_OUT_OF_RANGE_PADDED:
+        add_padded(string, OUT_OF_RANGE, PADDED_GROUPS);
         return;
     case FAULT_TOO_LARGE:
         add_fill(string, ALL_BITS, NUMBER_MOST_BYTES - 1);
         add_byte(string, TENTH_TOO_LARGE);
         return;
-    default:
+    case FAULT_CUT:
         add_byte(string, ALL_BITS);
+        return;
+    case FAULT_CUT_IN_PADDING:
+    default:
+        add_padded(string, 1, PADDED_GROUPS);
+        string->length--;
         return;
     }
 }
@@ -87,6 +104,32 @@ void add_event_numbers(struct byte_string *string, const struct phy_event *event
 void add_event(struct byte_string *string, const struct phy_event *event)
 {
     add_event_numbers(string, event, 0, event_numbers(event));
+}
+
+void add_padded_event(struct byte_string *string, const struct phy_event *event, size_t groups)
+{
+    for (size_t i = 0; i < event_numbers(event); i++) {
+        uint64_t value = event_number(event, i);
+        size_t needed = number_length(value);
+
+        add_padded(string, value, groups > needed ? groups : needed);
+    }
+}
+
+void add_randomly_padded_event(
+    struct case_file *file, struct byte_string *string, const struct phy_event *event, size_t most)
+{
+    for (size_t i = 0; i < event_numbers(event); i++) {
+        add_randomly_padded(file, string, event_number(event, i), most);
+    }
+}
+
+void add_event_padded_at(
+    struct byte_string *string, const struct phy_event *event, size_t which, size_t groups)
+{
+    add_event_numbers(string, event, 0, which);
+    add_padded(string, event_number(event, which), groups);
+    add_event_numbers(string, event, which + 1, event_numbers(event));
 }
 
 void random_damage(struct case_file *file, struct byte_string *string)
@@ -144,21 +187,27 @@ void pieces_add_string(struct pieces *pieces, uint64_t repeat, const struct byte
     pieces_add(pieces, repeat, string->bytes, string->length);
 }
 
-void pieces_add_event(struct pieces *pieces, uint64_t repeat, struct phy_event event)
+void pieces_add_padded_event(struct pieces *pieces, uint64_t repeat, struct phy_event event, size_t groups)
 {
     struct byte_string string = {.length = 0};
 
-    add_event(&string, &event);
+    add_padded_event(&string, &event, groups);
     pieces_add_string(pieces, repeat, &string);
 }
 
-uint64_t pieces_of_script(struct pieces *pieces, const struct phy_item items[SCRIPT_ITEMS])
+void pieces_add_event(struct pieces *pieces, uint64_t repeat, struct phy_event event)
+{
+    pieces_add_padded_event(pieces, repeat, event, SHORTEST);
+}
+
+uint64_t pieces_of_script(
+    struct pieces *pieces, const struct phy_item items[SCRIPT_ITEMS], size_t groups)
 {
     uint64_t events = 0;
 
     pieces_clear(pieces);
     for (size_t i = 0; i < SCRIPT_ITEMS && items[i].repeat != 0; i++) {
-        pieces_add_event(pieces, items[i].repeat, items[i].event);
+        pieces_add_padded_event(pieces, items[i].repeat, items[i].event, groups);
         events += items[i].repeat;
     }
     return events;

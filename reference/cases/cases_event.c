@@ -10,6 +10,7 @@ enum {
     PAST_END = 3,
     RANDOM_STRINGS = 500,
     DAMAGED_EVENTS = 500,
+    PADDED_EVENTS = 80,
     RANDOM_WRITES = 400
 };
 
@@ -20,14 +21,15 @@ static const size_t far_places[] = {
     (size_t)1 << 32, SIZE_MAX / 2, SIZE_MAX / 2 + 1, SIZE_MAX - 1, SIZE_MAX
 };
 
+static const uint64_t with_arguments[] = {EVENT_TX_OPEN, EVENT_OPEN_RECEIVED, EVENT_OPEN_REJECT};
+enum { WITH_ARGUMENTS = sizeof with_arguments / sizeof with_arguments[0] };
+
 static struct phy_event random_valid_event(struct case_file *file)
 {
-    static const uint64_t with_arguments[] = {EVENT_TX_OPEN, EVENT_OPEN_RECEIVED, EVENT_OPEN_REJECT};
-
     if (case_random_one_in(file, 4)) {
         return plain_event(EVENT_AIP + case_random_below(file, 6));
     }
-    return random_event_of(file, case_random_of(file, with_arguments, 3));
+    return random_event_of(file, case_random_of(file, with_arguments, WITH_ARGUMENTS));
 }
 
 /* ---- Reading ---- */
@@ -42,11 +44,11 @@ static void read_case(struct case_file *file, size_t place, const struct byte_st
     expect_event_read(file, KIND_READ_EVENT, &got);
 }
 
-static void read_cut_everywhere(struct case_file *file, const struct phy_event *event)
+static void read_cut_everywhere(struct case_file *file, const struct phy_event *event, size_t groups)
 {
     struct byte_string string = {.length = 0};
 
-    add_event(&string, event);
+    add_padded_event(&string, event, groups);
 
     size_t whole = string.length;
 
@@ -55,27 +57,27 @@ static void read_cut_everywhere(struct case_file *file, const struct phy_event *
     }
 }
 
-static void read_with_tails(struct case_file *file, const struct phy_event *event)
+static void read_with_tails(struct case_file *file, const struct phy_event *event, size_t groups)
 {
     static const uint8_t tails[] = {0x00, 0x01, 0x80, 0xFF};
 
     for (size_t i = 0; i < sizeof tails; i++) {
         struct byte_string string = {.length = 0};
 
-        add_event(&string, event);
+        add_padded_event(&string, event, groups);
         add_byte(&string, tails[i]);
         read_case(file, 0, &string);
     }
 }
 
 /* A whole event and half a number before, a wrong and a cut event behind: every place has its own story. */
-static void read_at_every_place(struct case_file *file, const struct phy_event *event)
+static void read_at_every_place(struct case_file *file, const struct phy_event *event, size_t groups)
 {
     struct byte_string string = {.length = 0};
 
     add_byte(&string, EVENT_TICK);
     add_byte(&string, 0x80 | EVENT_TICK);
-    add_event(&string, event);
+    add_padded_event(&string, event, groups);
     add_byte(&string, 0x00);
     add_byte(&string, 0xFF);
     for (size_t place = 0; place <= string.length + PAST_END; place++) {
@@ -92,9 +94,9 @@ static void read_listed_events(struct case_file *file)
     size_t count = list_events(events);
 
     for (size_t i = 0; i < count; i++) {
-        read_cut_everywhere(file, &events[i]);
-        read_with_tails(file, &events[i]);
-        read_at_every_place(file, &events[i]);
+        read_cut_everywhere(file, &events[i], SHORTEST);
+        read_with_tails(file, &events[i], SHORTEST);
+        read_at_every_place(file, &events[i], SHORTEST);
     }
 }
 
@@ -110,21 +112,68 @@ static void read_empty(struct case_file *file)
     }
 }
 
-/* ---- Reading numbers that are wrong, at every number of an event ---- */
+/* ---- Reading padded numbers ---- */
 
-static void read_padded(struct case_file *file, const struct phy_event *event, size_t which)
+static void read_padded_at(struct case_file *file, const struct phy_event *event, size_t which)
 {
-    uint64_t value = event_number(event, which);
+    size_t needed = number_length(event_number(event, which));
 
-    for (size_t groups = number_length(value) + 1; groups <= NUMBER_MOST_BYTES; groups++) {
+    for (size_t groups = needed + 1; groups <= NUMBER_MOST_BYTES; groups++) {
         struct byte_string string = {.length = 0};
 
-        add_event_numbers(&string, event, 0, which);
-        add_padded(&string, value, groups);
-        add_event_numbers(&string, event, which + 1, event_numbers(event));
+        add_event_padded_at(&string, event, which, groups);
         read_case(file, 0, &string);
     }
 }
+
+static void read_padded_at_every_number(struct case_file *file)
+{
+    for (uint64_t code = EVENT_TX_OPEN; code <= EVENT_PHY_DISABLED; code++) {
+        struct phy_event event = sample_event(code);
+
+        for (size_t which = 0; which < event_numbers(&event); which++) {
+            read_padded_at(file, &event, which);
+        }
+    }
+}
+
+static void read_all_numbers_padded(struct case_file *file)
+{
+    for (size_t i = 0; i < WITH_ARGUMENTS; i++) {
+        struct phy_event event = sample_event(with_arguments[i]);
+
+        for (size_t groups = 2; groups <= NUMBER_MOST_BYTES; groups++) {
+            read_with_tails(file, &event, groups);
+        }
+        read_at_every_place(file, &event, 3);
+        read_cut_everywhere(file, &event, NUMBER_MOST_BYTES);
+    }
+}
+
+/* Some of them are refused, and the place of their first byte is not 0. */
+static void read_listed_events_padded(struct case_file *file)
+{
+    const struct phy_event tick = plain_event(EVENT_TICK);
+    struct phy_event events[MOST_LISTED_EVENTS];
+    size_t count = list_events(events);
+
+    for (size_t i = 0; i < count; i++) {
+        struct byte_string string = {.length = 0};
+
+        add_padded_event(&string, &tick, NUMBER_MOST_BYTES);
+        add_padded_event(&string, &events[i], NUMBER_MOST_BYTES);
+        read_case(file, NUMBER_MOST_BYTES, &string);
+    }
+}
+
+static void read_padded(struct case_file *file)
+{
+    read_padded_at_every_number(file);
+    read_all_numbers_padded(file);
+    read_listed_events_padded(file);
+}
+
+/* ---- Reading numbers that are wrong, at every number of an event ---- */
 
 /* With the rest of the event behind it, and with nothing. */
 static void read_tenth_byte(
@@ -170,7 +219,6 @@ static void read_wrong_numbers(struct case_file *file)
         struct phy_event event = sample_event(code);
 
         for (size_t which = 0; which < event_numbers(&event); which++) {
-            read_padded(file, &event, which);
             read_tenth_bytes(file, &event, which);
             read_unfinished(file, &event, which);
         }
@@ -190,7 +238,7 @@ static void read_two_faults(
             add_fault(&string, left);
             add_event_numbers(&string, event, first + 1, second);
             add_fault(&string, right);
-            if (right != FAULT_CUT) {
+            if (right < FAULT_CUT) {
                 add_event_numbers(&string, event, second + 1, event_numbers(event));
             }
             read_case(file, 0, &string);
@@ -198,16 +246,33 @@ static void read_two_faults(
     }
 }
 
+/* Padding is no fault, so the one behind it is the first. */
+static void read_padded_and_fault(
+    struct case_file *file, const struct phy_event *event, size_t first, size_t second)
+{
+    for (enum number_fault fault = FAULT_OUT_OF_RANGE; fault < NUMBER_FAULTS; fault++) {
+        struct byte_string string = {.length = 0};
+
+        add_event_numbers(&string, event, 0, first);
+        add_padded(&string, event_number(event, first), NUMBER_MOST_BYTES);
+        add_event_numbers(&string, event, first + 1, second);
+        add_fault(&string, fault);
+        if (fault < FAULT_CUT) {
+            add_event_numbers(&string, event, second + 1, event_numbers(event));
+        }
+        read_case(file, 0, &string);
+    }
+}
+
 static void read_all_two_faults(struct case_file *file)
 {
-    static const uint64_t codes[] = {EVENT_TX_OPEN, EVENT_OPEN_RECEIVED, EVENT_OPEN_REJECT};
-
-    for (size_t i = 0; i < sizeof codes / sizeof codes[0]; i++) {
-        struct phy_event event = sample_event(codes[i]);
+    for (size_t i = 0; i < WITH_ARGUMENTS; i++) {
+        struct phy_event event = sample_event(with_arguments[i]);
 
         for (size_t second = 1; second < event_numbers(&event); second++) {
             for (size_t first = 0; first < second; first++) {
                 read_two_faults(file, &event, first, second);
+                read_padded_and_fault(file, &event, first, second);
             }
         }
     }
@@ -240,10 +305,22 @@ static void read_damaged(struct case_file *file)
     read_case(file, 0, &string);
 }
 
+static void read_randomly_padded(struct case_file *file)
+{
+    struct byte_string string = {.length = 0};
+    struct phy_event event = random_valid_event(file);
+
+    add_randomly_padded_event(file, &string, &event, NUMBER_MOST_BYTES);
+    read_case(file, 0, &string);
+    random_damage(file, &string);
+    read_case(file, 0, &string);
+}
+
 void make_read_event_cases(struct case_file *file)
 {
     read_empty(file);
     read_listed_events(file);
+    read_padded(file);
     read_wrong_numbers(file);
     read_all_two_faults(file);
     for (int i = 0; i < RANDOM_STRINGS; i++) {
@@ -251,6 +328,9 @@ void make_read_event_cases(struct case_file *file)
     }
     for (int i = 0; i < DAMAGED_EVENTS; i++) {
         read_damaged(file);
+    }
+    for (int i = 0; i < PADDED_EVENTS; i++) {
+        read_randomly_padded(file);
     }
 }
 
@@ -333,12 +413,10 @@ static void write_listed_events(struct case_file *file)
 /* Its first numbers would fit where the whole event does not. */
 static void write_in_every_short_buffer(struct case_file *file)
 {
-    static const uint64_t codes[] = {EVENT_TX_OPEN, EVENT_OPEN_RECEIVED, EVENT_OPEN_REJECT};
+    for (size_t i = 0; i < WITH_ARGUMENTS; i++) {
+        struct phy_event event = sample_event(with_arguments[i]);
 
-    for (size_t i = 0; i < sizeof codes / sizeof codes[0]; i++) {
-        struct phy_event event = sample_event(codes[i]);
-
-        event.argument[0] = phy_argument_fits(codes[i], 0, UINT64_MAX) ? UINT64_MAX : 0;
+        event.argument[0] = phy_argument_fits(event.code, 0, UINT64_MAX) ? UINT64_MAX : 0;
         for (size_t length = 0; length <= written_length(&event) + 3; length++) {
             write_case(file, &event, 0, length);
             write_case(file, &event, 2, length);

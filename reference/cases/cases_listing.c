@@ -2,6 +2,7 @@
 
 #include "case_trace.h"
 #include "listing.h"
+#include "number.h"
 
 enum {
     LONG_EVENTS = 5,
@@ -9,8 +10,11 @@ enum {
     RANDOM_WALKS = 25,
     WALK_EVENTS = 50,
     DAMAGED_WALKS = 80,
+    PADDED_WALKS = 5,
+    DAMAGED_PADDED_WALKS = 15,
     SHORT_EVENTS = 14,
-    LISTER_WALKS = 150
+    LISTER_WALKS = 150,
+    LISTER_PADDED_WALKS = 4
 };
 
 static const struct phy_event widest_inbound = {EVENT_OPEN_RECEIVED, {UINT64_MAX, PROTOCOL_STP}};
@@ -120,7 +124,7 @@ static void list_scripts(struct case_file *file)
     for (size_t i = 0; i < phy_script_count; i++) {
         struct pieces trace;
 
-        if (pieces_of_script(&trace, phy_scripts[i]) <= MOST_SCRIPT_EVENTS) {
+        if (pieces_of_script(&trace, phy_scripts[i], SHORTEST) <= MOST_SCRIPT_EVENTS) {
             listing_case(file, &trace);
         }
     }
@@ -135,7 +139,7 @@ static void list_timeouts(struct case_file *file)
     };
     struct pieces trace;
 
-    pieces_of_script(&trace, items);
+    pieces_of_script(&trace, items, SHORTEST);
     listing_case(file, &trace);
 }
 
@@ -150,6 +154,24 @@ static void list_all_events(struct case_file *file)
     list_timeouts(file);
 }
 
+static void add_tour(struct byte_string *string, size_t to, size_t groups)
+{
+    for (size_t i = 0; i < to; i++) {
+        add_padded_event(string, &phy_tour[i], groups);
+    }
+}
+
+/* The same events in one width and another; only the places differ. */
+static void list_padded_tours(struct case_file *file)
+{
+    for (size_t groups = SHORTEST; groups <= NUMBER_MOST_BYTES; groups += 3) {
+        struct byte_string string = {.length = 0};
+
+        add_tour(&string, phy_tour_count, groups);
+        list_string(file, &string);
+    }
+}
+
 /* ---- Every kind of stop ---- */
 
 static void list_fault(struct case_file *file, size_t before, size_t which, enum number_fault fault)
@@ -157,12 +179,10 @@ static void list_fault(struct case_file *file, size_t before, size_t which, enum
     struct byte_string string = {.length = 0};
     struct phy_event open = sample_event(EVENT_TX_OPEN);
 
-    for (size_t i = 0; i < before; i++) {
-        add_event(&string, &phy_tour[i]);
-    }
+    add_tour(&string, before, SHORTEST);
     add_event_numbers(&string, &open, 0, which);
     add_fault(&string, fault);
-    if (fault != FAULT_CUT) {
+    if (fault < FAULT_CUT) {
         add_event_numbers(&string, &open, which + 1, event_numbers(&open));
         add_byte(&string, EVENT_TICK);
     }
@@ -183,40 +203,55 @@ static void list_faults(struct case_file *file)
     }
 }
 
+/* The stop's place counts the padding before it. */
+static void list_faults_behind_padding(struct case_file *file)
+{
+    for (enum number_fault fault = FAULT_OUT_OF_RANGE; fault < NUMBER_FAULTS; fault++) {
+        struct byte_string string = {.length = 0};
+
+        add_tour(&string, phy_tour_count, 3);
+        add_fault(&string, fault);
+        list_string(file, &string);
+    }
+}
+
 /* ---- Long traces ---- */
 
-static void add_long_cycle(struct pieces *trace, size_t most)
+static void add_long_cycle(struct pieces *trace, size_t most, size_t groups)
 {
     struct byte_string cycle = {.length = 0};
 
     for (int i = 0; i < LONG_EVENTS; i++) {
-        add_event(&cycle, &widest_tx_open);
+        add_padded_event(&cycle, &widest_tx_open, groups);
     }
-    add_event(&cycle, &widest_inbound);
+    add_padded_event(&cycle, &widest_inbound, groups);
     add_byte(&cycle, EVENT_TICK);
     pieces_add_string(trace, (most - trace->length) / cycle.length, &cycle);
 }
 
-static void list_longest(struct case_file *file)
+static void list_longest(struct case_file *file, size_t groups)
 {
     struct pieces trace;
 
     pieces_clear(&trace);
-    add_long_cycle(&trace, LISTING_MOST_BYTES);
+    add_long_cycle(&trace, LISTING_MOST_BYTES, groups);
     pieces_add_event(&trace, LISTING_MOST_BYTES - trace.length, plain_event(EVENT_TICK));
     listing_case(file, &trace);
 }
 
 /* The last event begins within the longest trace and would end one byte after it. */
-static void list_longest_cut(struct case_file *file)
+static void list_longest_cut(struct case_file *file, size_t groups)
 {
     struct byte_string last = {.length = 0};
     struct pieces trace;
 
-    add_event(&last, &widest_tx_open);
+    add_padded_event(&last, &widest_tx_open, groups);
     last.length--;
+
+    uint64_t events = (LISTING_MOST_BYTES - last.length) / (last.length + 1);
+
     pieces_clear(&trace);
-    pieces_add_event(&trace, (LISTING_MOST_BYTES - last.length) / (last.length + 1), widest_tx_open);
+    pieces_add_padded_event(&trace, events, widest_tx_open, groups);
     pieces_add_event(&trace, LISTING_MOST_BYTES - last.length - trace.length, plain_event(EVENT_TICK));
     pieces_add_string(&trace, 1, &last);
     listing_case(file, &trace);
@@ -245,9 +280,12 @@ static void list_too_long_then_nothing(struct case_file *file)
 
 static void list_long_traces(struct case_file *file)
 {
-    list_longest(file);
-    list_longest_cut(file);
+    list_longest(file, SHORTEST);
+    list_longest(file, NUMBER_MOST_BYTES);
+    list_longest_cut(file, SHORTEST);
+    list_longest_cut(file, NUMBER_MOST_BYTES);
     list_filled(file, 0x00, LISTING_MOST_BYTES);
+    list_filled(file, 0x80, LISTING_MOST_BYTES);
     list_filled(file, 0xFF, LISTING_MOST_BYTES);
     list_filled(file, 0x00, LISTING_MOST_BYTES + 1);
     list_filled(file, 0xFF, LISTING_MOST_BYTES + 1);
@@ -257,7 +295,7 @@ static void list_long_traces(struct case_file *file)
 
 /* ---- Seeded walks ---- */
 
-static struct byte_string random_walk(struct case_file *file, size_t events)
+static struct byte_string random_walk(struct case_file *file, size_t events, size_t most_groups)
 {
     struct byte_string string = {.length = 0};
     struct phy now = phy_fresh();
@@ -271,21 +309,25 @@ static struct byte_string random_walk(struct case_file *file, size_t events)
 
         struct phy_event event = random_event_of(file, code);
 
-        add_event(&string, &event);
+        add_randomly_padded_event(file, &string, &event, most_groups);
         now = phy_step(now, event).phy;
     }
     return string;
 }
 
-static void list_random_walks(struct case_file *file)
+static void list_random_walks(struct case_file *file, int count, size_t most_groups)
 {
-    for (int i = 0; i < RANDOM_WALKS; i++) {
-        struct byte_string string = random_walk(file, WALK_EVENTS);
+    for (int i = 0; i < count; i++) {
+        struct byte_string string = random_walk(file, WALK_EVENTS, most_groups);
 
         list_string(file, &string);
     }
-    for (int i = 0; i < DAMAGED_WALKS; i++) {
-        struct byte_string string = random_walk(file, SHORT_EVENTS);
+}
+
+static void list_damaged_walks(struct case_file *file, int count, size_t most_groups)
+{
+    for (int i = 0; i < count; i++) {
+        struct byte_string string = random_walk(file, SHORT_EVENTS, most_groups);
 
         random_damage(file, &string);
         list_string(file, &string);
@@ -297,9 +339,14 @@ void make_listing_cases(struct case_file *file)
     list_nothing(file);
     list_paper_example(file);
     list_all_events(file);
+    list_padded_tours(file);
     list_faults(file);
+    list_faults_behind_padding(file);
     list_long_traces(file);
-    list_random_walks(file);
+    list_random_walks(file, RANDOM_WALKS, SHORTEST);
+    list_damaged_walks(file, DAMAGED_WALKS, SHORTEST);
+    list_random_walks(file, PADDED_WALKS, NUMBER_MOST_BYTES);
+    list_damaged_walks(file, DAMAGED_PADDED_WALKS, NUMBER_MOST_BYTES);
 }
 
 /* ---- The lister's own trace ---- */
@@ -307,11 +354,13 @@ void make_listing_cases(struct case_file *file)
 /* Its listing is more than twice as long as a program's buffer, so that it is written in parts. */
 void make_lister_case(struct case_file *file)
 {
-    struct byte_string walk = random_walk(file, WALK_EVENTS);
+    struct byte_string walk = random_walk(file, WALK_EVENTS, SHORTEST);
+    struct byte_string padded = random_walk(file, WALK_EVENTS, NUMBER_MOST_BYTES);
     struct pieces trace;
 
     pieces_clear(&trace);
     pieces_add_string(&trace, LISTER_WALKS, &walk);
+    pieces_add_string(&trace, LISTER_PADDED_WALKS, &padded);
     fwrite(trace.whole, 1, trace.length, file->cases);
     list_trace(file->expected, trace.whole, trace.length);
 }

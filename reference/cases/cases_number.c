@@ -1,5 +1,6 @@
 #include "cases.h"
 
+#include "case_trace.h"
 #include "number.h"
 
 #include <string.h>
@@ -9,10 +10,11 @@ _Static_assert(SIZE_MAX == UINT64_MAX, "places up to 2^64-1 are part of the case
 enum {
     MOST_BOUNDARIES = 64,
     MOST_STRING = 64,
-    BEFORE = 2,
-    AFTER = 2,
+    PAST_END = 2,
+    MOST_GROUPS_TRIED = NUMBER_MOST_BYTES + 3,
     RANDOM_STRINGS = 400,
-    DAMAGED_NUMBERS = 400
+    DAMAGED_NUMBERS = 400,
+    PADDED_NUMBERS = 300
 };
 
 /* All with the high bit set: no bits, the lowest, some and all bits of the group. */
@@ -55,38 +57,57 @@ static void read_case(struct case_file *file, size_t place, const uint8_t *bytes
     expect_line(file, KIND_READ_NUMBER, line, sizeof line / sizeof line[0]);
 }
 
+static void read_string(struct case_file *file, size_t place, const struct byte_string *string)
+{
+    read_case(file, place, string->bytes, string->length);
+}
+
+/* In its widest form only: cut anywhere, a narrower one leaves the same bytes. */
 static void read_cut_everywhere(struct case_file *file, uint64_t value)
 {
-    uint8_t bytes[NUMBER_MOST_BYTES];
-    size_t whole = number_write(value, bytes, sizeof bytes, 0).length;
+    struct byte_string string = {.length = 0};
 
-    for (size_t length = 0; length <= whole; length++) {
-        read_case(file, 0, bytes, length);
+    add_padded(&string, value, NUMBER_MOST_BYTES);
+    for (size_t length = 0; length < string.length; length++) {
+        read_case(file, 0, string.bytes, length);
     }
 }
 
 /* A number before, one byte that is whole and one that is cut behind: every place has its own story. */
-static void read_at_every_place(struct case_file *file, uint64_t value)
+static void read_at_every_place(struct case_file *file, uint64_t value, size_t groups)
 {
-    uint8_t bytes[BEFORE + NUMBER_MOST_BYTES + AFTER] = {0x80, 0x01};
-    size_t end = BEFORE + number_write(value, bytes, sizeof bytes, BEFORE).length;
+    struct byte_string string = {.length = 0};
 
-    bytes[end] = 0x00;
-    bytes[end + 1] = 0xFF;
-    for (size_t place = 0; place <= end + AFTER + 2; place++) {
-        read_case(file, place, bytes, end + AFTER);
+    add_byte(&string, 0x80);
+    add_byte(&string, 0x01);
+    add_padded(&string, value, groups);
+    add_byte(&string, 0x00);
+    add_byte(&string, 0xFF);
+    for (size_t place = 0; place <= string.length + PAST_END; place++) {
+        read_string(file, place, &string);
     }
 }
 
-static void read_with_tails(struct case_file *file, uint64_t value)
+static void read_with_tails(struct case_file *file, uint64_t value, size_t groups)
 {
     static const uint8_t tails[] = {0x00, 0x01, 0x80, 0xFF};
-    uint8_t bytes[NUMBER_MOST_BYTES + 1];
-    size_t whole = number_write(value, bytes, sizeof bytes, 0).length;
+    struct byte_string string = {.length = 0};
 
+    add_padded(&string, value, groups);
+    read_string(file, 0, &string);
     for (size_t i = 0; i < sizeof tails; i++) {
-        bytes[whole] = tails[i];
-        read_case(file, 0, bytes, whole + 1);
+        string.length = groups;
+        add_byte(&string, tails[i]);
+        read_string(file, 0, &string);
+    }
+}
+
+/* From its shortest form up to ten groups. */
+static void read_in_every_width(struct case_file *file, uint64_t value)
+{
+    for (size_t groups = number_length(value); groups <= NUMBER_MOST_BYTES; groups++) {
+        read_at_every_place(file, value, groups);
+        read_with_tails(file, value, groups);
     }
 }
 
@@ -97,8 +118,7 @@ static void read_boundaries(struct case_file *file)
 
     for (size_t i = 0; i < count; i++) {
         read_cut_everywhere(file, values[i]);
-        read_at_every_place(file, values[i]);
-        read_with_tails(file, values[i]);
+        read_in_every_width(file, values[i]);
     }
 }
 
@@ -115,9 +135,10 @@ static void read_filled(struct case_file *file, size_t filled, uint8_t fill, uin
     read_case(file, before, bytes, before + filled + 2);
 }
 
-static void read_overlong(struct case_file *file)
+/* Padded up to ten groups; with more of them it is too large, however little they add. */
+static void read_last_group_zero(struct case_file *file)
 {
-    for (size_t groups = 2; groups <= NUMBER_MOST_BYTES; groups++) {
+    for (size_t groups = 2; groups <= MOST_GROUPS_TRIED; groups++) {
         for (size_t i = 0; i < sizeof fills; i++) {
             read_filled(file, groups - 1, fills[i], 0x00);
         }
@@ -221,6 +242,16 @@ static void read_damaged(struct case_file *file)
     read_case(file, 0, bytes, length);
 }
 
+static void read_randomly_padded(struct case_file *file)
+{
+    struct byte_string string = {.length = 0};
+
+    add_randomly_padded(file, &string, random_value(file), NUMBER_MOST_BYTES);
+    read_string(file, 0, &string);
+    random_damage(file, &string);
+    read_string(file, 0, &string);
+}
+
 /* ---- Writing ---- */
 
 static void write_case(struct case_file *file, uint64_t value, size_t place, size_t length)
@@ -308,7 +339,7 @@ static void write_in_the_longest_buffer(struct case_file *file)
 void make_number_cases(struct case_file *file)
 {
     read_boundaries(file);
-    read_overlong(file);
+    read_last_group_zero(file);
     read_every_tenth_byte(file);
     read_every_short_string(file);
     read_cut(file);
@@ -318,6 +349,9 @@ void make_number_cases(struct case_file *file)
     }
     for (int i = 0; i < DAMAGED_NUMBERS; i++) {
         read_damaged(file);
+    }
+    for (int i = 0; i < PADDED_NUMBERS; i++) {
+        read_randomly_padded(file);
     }
     write_boundaries(file);
     write_in_the_longest_buffer(file);

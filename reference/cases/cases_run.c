@@ -1,5 +1,6 @@
 #include "cases.h"
 
+#include "number.h"
 #include "phy_fields.h"
 #include "run_chain.h"
 
@@ -8,7 +9,9 @@ enum {
     LONG_RUN_CUT_SHORT = 30011,
     SEEDED_CHAINS = 90,
     MOST_CHAINED = 6,
-    MOST_ITEMS = 24
+    MOST_ITEMS = 24,
+    PADDED_ONE_IN = 8,
+    PADDED_GROUPS = 4
 };
 
 /* ---- Budgets and buffers ---- */
@@ -40,9 +43,20 @@ static void run_scripts(struct case_file *file)
 {
     for (size_t i = 0; i < phy_script_count; i++) {
         struct pieces trace;
-        uint64_t events = pieces_of_script(&trace, phy_scripts[i]);
+        uint64_t events = pieces_of_script(&trace, phy_scripts[i], SHORTEST);
 
         try_budgets(file, &trace, events);
+    }
+}
+
+/* Every answer comes at the same event as without padding. */
+static void run_padded_scripts(struct case_file *file)
+{
+    for (size_t i = 0; i < phy_script_count; i++) {
+        struct pieces trace;
+        uint64_t events = pieces_of_script(&trace, phy_scripts[i], PADDED_GROUPS);
+
+        single_run(file, phy_fresh(), events, events, &trace);
     }
 }
 
@@ -115,7 +129,7 @@ static void run_into_fault(struct case_file *file, size_t before, enum number_fa
 
     add_tour(&string, 0, before);
     add_fault(&string, fault);
-    if (fault != FAULT_CUT) {
+    if (fault < FAULT_CUT) {
         add_tour(&string, before, phy_tour_count);
     }
     pieces_clear(&trace);
@@ -134,6 +148,29 @@ static void run_into_faults(struct case_file *file)
         for (enum number_fault fault = FAULT_OUT_OF_RANGE; fault < NUMBER_FAULTS; fault++) {
             run_into_fault(file, before, fault);
         }
+    }
+}
+
+/* The place of the fault counts the padding before it. The budget ends at the fault, and behind it. */
+static void run_padded_into_fault(struct case_file *file, size_t before, enum number_fault fault)
+{
+    struct byte_string string = {.length = 0};
+    struct pieces trace;
+
+    for (size_t i = 0; i < before; i++) {
+        add_randomly_padded_event(file, &string, &phy_tour[i], PADDED_GROUPS);
+    }
+    add_fault(&string, fault);
+    pieces_clear(&trace);
+    pieces_add_string(&trace, 1, &string);
+    single_run(file, phy_fresh(), before, before, &trace);
+    single_run(file, phy_fresh(), before + 1, before + 2, &trace);
+}
+
+static void run_padded_into_faults(struct case_file *file)
+{
+    for (size_t before = 0; before <= phy_tour_count; before++) {
+        run_padded_into_fault(file, before, (enum number_fault)(before % NUMBER_FAULTS));
     }
 }
 
@@ -259,6 +296,21 @@ static void walk_long(struct case_file *file, size_t stride)
     }
 }
 
+/* The Open that nobody answers, its ticks as wide as can be, up to the last byte of the longest trace. */
+static void walk_long_padded(struct case_file *file)
+{
+    struct pieces trace;
+
+    pieces_clear(&trace);
+    pieces_add_padded_event(&trace, 1, sample_event(EVENT_TX_OPEN), NUMBER_MOST_BYTES);
+
+    uint64_t ticks = (LONG_TRACE - trace.length) / NUMBER_MOST_BYTES;
+
+    pieces_add_padded_event(&trace, ticks, plain_event(EVENT_TICK), NUMBER_MOST_BYTES);
+    pieces_add_event(&trace, LONG_TRACE - trace.length, plain_event(EVENT_TICK));
+    single_run(file, phy_fresh(), LENT_ROOM, LENT_ROOM, &trace);
+}
+
 /* ---- Seeded chains ---- */
 
 /* now: where the trace so far leads if all of it is taken. */
@@ -267,6 +319,15 @@ struct walk {
     uint64_t events;
     struct pieces trace;
 };
+
+/* An event that is repeated is not padded, or the trace would be too long. */
+static size_t random_groups(struct case_file *file, uint64_t repeat)
+{
+    if (repeat > 1 || !case_random_one_in(file, PADDED_ONE_IN)) {
+        return SHORTEST;
+    }
+    return 1 + (size_t)case_random_below(file, NUMBER_MOST_BYTES);
+}
 
 static void add_random_item(struct case_file *file, struct walk *walk)
 {
@@ -283,7 +344,7 @@ static void add_random_item(struct case_file *file, struct walk *walk)
 
     struct phy_event event = random_event_of(file, code);
 
-    pieces_add_event(&walk->trace, repeat, event);
+    pieces_add_padded_event(&walk->trace, repeat, event, random_groups(file, repeat));
     walk->events += repeat;
     for (uint64_t i = 0; i < repeat; i++) {
         walk->now = phy_step(walk->now, event).phy;
@@ -362,12 +423,15 @@ void make_run_cases(struct case_file *file)
 {
     try_all_small_edges(file);
     run_scripts(file);
+    run_padded_scripts(file);
     cut_everywhere(file);
     run_into_faults(file);
+    run_padded_into_faults(file);
     one_event_at_a_time(file);
     start_from_every_pair(file);
     walk_long(file, 1);
     walk_long(file, CYCLES - 1);
+    walk_long_padded(file);
     chain_from_every_pair(file);
     for (int i = 0; i < SEEDED_CHAINS; i++) {
         seeded_chain(file, phy_fresh());

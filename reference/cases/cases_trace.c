@@ -12,7 +12,10 @@ enum {
     SHORT_EVENTS = 8,
     DAMAGED_TRACES = 3,
     RANDOM_TRACES = 10,
-    RANDOM_DAMAGES = 250
+    RANDOM_DAMAGES = 250,
+    PADDED_TRACES = 8,
+    PADDED_EVENTS = 25,
+    PADDED_DAMAGES = 60
 };
 
 struct event_list {
@@ -20,6 +23,7 @@ struct event_list {
     struct phy_event events[MOST_EVENTS];
 };
 
+/* An event is written again where it was read: what only its padding took stays untouched. */
 static void trace_case(struct case_file *file, const struct byte_string *trace)
 {
     uint8_t copy[STRING_ROOM];
@@ -39,12 +43,23 @@ static void trace_case(struct case_file *file, const struct byte_string *trace)
     expect_repeats(file, KIND_TRACE, copy, trace->length);
 }
 
-static struct byte_string trace_of(const struct event_list *list)
+static struct byte_string trace_of(const struct event_list *list, size_t groups)
 {
     struct byte_string trace = {.length = 0};
 
     for (size_t i = 0; i < list->count; i++) {
-        add_event(&trace, &list->events[i]);
+        add_padded_event(&trace, &list->events[i], groups);
+    }
+    return trace;
+}
+
+static struct byte_string randomly_padded_trace_of(
+    struct case_file *file, const struct event_list *list, size_t most)
+{
+    struct byte_string trace = {.length = 0};
+
+    for (size_t i = 0; i < list->count; i++) {
+        add_randomly_padded_event(file, &trace, &list->events[i], most);
     }
     return trace;
 }
@@ -73,14 +88,16 @@ static void change_every_byte(struct case_file *file, const struct byte_string *
     }
 }
 
-static void add_padded_event(struct byte_string *trace, const struct phy_event *event, size_t which)
+static void damage_everywhere(struct case_file *file, const struct event_list *list)
 {
-    uint64_t value = event_number(event, which);
+    struct byte_string trace = trace_of(list, SHORTEST);
 
-    add_event_numbers(trace, event, 0, which);
-    add_padded(trace, value, number_length(value) + 1);
-    add_event_numbers(trace, event, which + 1, event_numbers(event));
+    trace_case(file, &trace);
+    cut_everywhere(file, trace);
+    change_every_byte(file, &trace);
 }
+
+/* ---- Padding, at every number in turn: the places behind it move, the events stay ---- */
 
 static void pad_number(struct case_file *file, const struct event_list *list, size_t hit, size_t which)
 {
@@ -88,7 +105,7 @@ static void pad_number(struct case_file *file, const struct event_list *list, si
 
     for (size_t i = 0; i < list->count; i++) {
         if (i == hit) {
-            add_padded_event(&trace, &list->events[i], which);
+            add_event_padded_at(&trace, &list->events[i], which, NUMBER_MOST_BYTES);
         } else {
             add_event(&trace, &list->events[i]);
         }
@@ -105,16 +122,6 @@ static void pad_every_number(struct case_file *file, const struct event_list *li
     }
 }
 
-static void damage_everywhere(struct case_file *file, const struct event_list *list)
-{
-    struct byte_string trace = trace_of(list);
-
-    trace_case(file, &trace);
-    cut_everywhere(file, trace);
-    change_every_byte(file, &trace);
-    pad_every_number(file, list);
-}
-
 /* ---- Whole traces ---- */
 
 static struct event_list every_code(void)
@@ -127,13 +134,13 @@ static struct event_list every_code(void)
     return list;
 }
 
-static void all_valid_events(struct case_file *file)
+static void all_valid_events(struct case_file *file, size_t groups)
 {
     struct event_list list;
 
     list.count = list_valid_events(list.events);
 
-    struct byte_string trace = trace_of(&list);
+    struct byte_string trace = trace_of(&list, groups);
 
     trace_case(file, &trace);
 }
@@ -188,13 +195,45 @@ static struct event_list random_list(struct case_file *file, size_t count)
     return list;
 }
 
-static void random_damaged_trace(struct case_file *file)
+static void random_damaged_trace(struct case_file *file, size_t most)
 {
     struct event_list list = random_list(file, 1 + (size_t)case_random_below(file, SHORT_EVENTS));
-    struct byte_string trace = trace_of(&list);
+    struct byte_string trace = randomly_padded_trace_of(file, &list, most);
 
     random_damage(file, &trace);
     trace_case(file, &trace);
+}
+
+static void random_traces(struct case_file *file)
+{
+    for (int i = 0; i < DAMAGED_TRACES; i++) {
+        struct event_list list = random_list(file, SHORT_EVENTS);
+
+        damage_everywhere(file, &list);
+        pad_every_number(file, &list);
+    }
+    for (int i = 0; i < RANDOM_TRACES; i++) {
+        struct event_list list = random_list(file, MOST_EVENTS);
+        struct byte_string trace = trace_of(&list, SHORTEST);
+
+        trace_case(file, &trace);
+    }
+    for (int i = 0; i < RANDOM_DAMAGES; i++) {
+        random_damaged_trace(file, SHORTEST);
+    }
+}
+
+static void random_padded_traces(struct case_file *file)
+{
+    for (int i = 0; i < PADDED_TRACES; i++) {
+        struct event_list list = random_list(file, PADDED_EVENTS);
+        struct byte_string trace = randomly_padded_trace_of(file, &list, NUMBER_MOST_BYTES);
+
+        trace_case(file, &trace);
+    }
+    for (int i = 0; i < PADDED_DAMAGES; i++) {
+        random_damaged_trace(file, NUMBER_MOST_BYTES);
+    }
 }
 
 void make_whole_trace_cases(struct case_file *file)
@@ -204,20 +243,11 @@ void make_whole_trace_cases(struct case_file *file)
 
     trace_case(file, &empty);
     damage_everywhere(file, &codes);
-    all_valid_events(file);
+    pad_every_number(file, &codes);
+    cut_everywhere(file, trace_of(&codes, 2));
+    all_valid_events(file, SHORTEST);
+    all_valid_events(file, NUMBER_MOST_BYTES);
     longest_trace(file);
-    for (int i = 0; i < DAMAGED_TRACES; i++) {
-        struct event_list list = random_list(file, SHORT_EVENTS);
-
-        damage_everywhere(file, &list);
-    }
-    for (int i = 0; i < RANDOM_TRACES; i++) {
-        struct event_list list = random_list(file, MOST_EVENTS);
-        struct byte_string trace = trace_of(&list);
-
-        trace_case(file, &trace);
-    }
-    for (int i = 0; i < RANDOM_DAMAGES; i++) {
-        random_damaged_trace(file);
-    }
+    random_traces(file);
+    random_padded_traces(file);
 }

@@ -17,7 +17,6 @@ pub fn take(s: &[u8], place: usize) -> Taken
     match number::read_number(s, place) {
         NumberRead::Value { value, next } => Taken { value, next },
         NumberRead::Cut => end,
-        NumberRead::Overlong => end,
         NumberRead::TooLarge => end,
     }
 }

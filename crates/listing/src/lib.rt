@@ -76,7 +76,6 @@ fn next_event(
         EventRead::End => put_last(b"end", place, b" events", count, true, out, at),
         EventRead::BadEvent(first) => put_stop(first, table::BAD_EVENT, out, at),
         EventRead::Cut(first) => put_stop(first, table::CUT, out, at),
-        EventRead::Overlong(first) => put_stop(first, table::OVERLONG, out, at),
         EventRead::TooLarge(first) => put_stop(first, table::TOO_LARGE, out, at),
     }
 }

@@ -1,7 +1,7 @@
 -- The marked cases hold by computation; the three long ones each in a declaration of its own, since together they are more than one may compute.
 use mathlib.Core.List.{[], _∷_}
 use mathlib.Core.Path.{_≡_, refl}
-use Rattle.number.specs.Reading.{lastGroup, tenthByte, groups, readNumber}
+use Rattle.number.specs.Reading.{tenthByte, groups, readNumber}
 use Rattle.number.specs.Writing.{bytesOf, numberBytes}
 use Rattle.dws.specs.Step.{afterInvalid, afterValid, afterPrimitive, nextState, reportOf}
 use Rattle.dws.specs.Step as dws
@@ -40,7 +40,7 @@ answered = (refl, refl, refl, refl, refl)
 
 -- numbers
 numbered : Right M11 × Right M12
-unfolding lastGroup tenthByte groups readNumber bytesOf numberBytes
+unfolding tenthByte groups readNumber bytesOf numberBytes
 numbered = (refl, refl)
 
 pub all-marked : AllMarked

@@ -4,7 +4,7 @@ use mathlib.Core.List.{List, [], _∷_, _++_, map}
 use mathlib.Core.Path.{_≡_}
 use lib.ListN.{replicate}
 use Rattle.table.specs.Choice.{pick}
-use Rattle.table.specs.Refusals.{busy, overlong}
+use Rattle.table.specs.Refusals.{busy}
 use Rattle.number.specs.Reading.{Told, value, refused, readNumber}
 use Rattle.number.specs.Writing.{numberBytes}
 use Rattle.dws.specs.Names.{syncAcquired, acquireSync, invalidDword, dataDword, primitive}
@@ -123,9 +123,9 @@ M10 = gives 10 (refusalsTo (openTo 5 ∷ openTo 5 ∷ [])) (0 ∷ busy ∷ [])
 abbrev pub M11 : Case
 M11 = gives 11 (numberBytes 300 ++ numbersOf (readNumber (0xAC ∷ 0x02 ∷ []) 0)) (0xAC ∷ 0x02 ∷ 0 ∷ 300 ∷ 2 ∷ [])
 
--- 80 00 is Overlong
+-- 80 00 is 0, padded: read with the place after it
 abbrev pub M12 : Case
-M12 = gives 12 (numbersOf (readNumber (0x80 ∷ 0x00 ∷ []) 0)) (overlong ∷ [])
+M12 = gives 12 (numbersOf (readNumber (0x80 ∷ 0x00 ∷ []) 0)) (0 ∷ 0 ∷ 2 ∷ [])
 
 abbrev pub marked : List Case
 marked = M1 ∷ M2 ∷ M3 ∷ M4 ∷ M5 ∷ M6 ∷ M7 ∷ M8 ∷ M9 ∷ M10 ∷ M11 ∷ M12 ∷ []

@@ -2,7 +2,7 @@
 use mathlib.Core.List.{[], _∷_}
 use mathlib.Core.Path.{_≡_, refl}
 use Rattle.table.specs.Choice.{_⇒_, rows}
-use Rattle.table.specs.Refusals.{cut, overlong}
+use Rattle.table.specs.Refusals.{cut}
 use Rattle.table.specs.Results.{TellsOnce}
 use Rattle.table.proofs.Results.{leads-back, by-telling, by-equation, with-lent}
 use Rattle.number.specs.Reading.{Told, value, tells}
@@ -11,20 +11,19 @@ use Rattle.number.specs.Writing.{ToldWritten, wrote, tellsWritten}
 use Rattle.number.specs.Writing as writing
 use Rattle.number.specs.Laws.{Determined}
 use Rattle.number.specs.declared.NumberRead.{NumberRead}
-use Rattle.number.specs.declared.NumberRead.the-variants.{Value, Cut, Overlong, TooLarge}
+use Rattle.number.specs.declared.NumberRead.the-variants.{Value, Cut, TooLarge}
 use Rattle.number.specs.declared.NumberWritten.{NumberWritten}
 use Rattle.number.specs.declared.NumberWritten.the-variants.{Length, NoRoom}
 
 -- what is said tells which result said it
 answer : Told → NumberRead
 answer (value v next) = Value v next
-answer (reading.refused n) = rows n ((cut ⇒ Cut) ∷ (overlong ⇒ Overlong) ∷ []) TooLarge
+answer (reading.refused n) = rows n ((cut ⇒ Cut) ∷ []) TooLarge
 
 answers : (r : NumberRead) → answer (tells r) ≡ r
 unfolding answer
 answers (Value v next) = refl
 answers Cut = refl
-answers Overlong = refl
 answers TooLarge = refl
 
 pub read-once : TellsOnce tells

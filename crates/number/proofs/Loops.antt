@@ -3,16 +3,14 @@ use Prim.Native.Nat.{ℕ, zero, suc, _+_, _-_, _*_, _/_, _%_, _^_, _≤_, _<_}
 use mathlib.Core.Path.{_≡_, refl, sym, subst, ap, _∙_}
 use mathlib.Core.List.{List, [], _∷_}
 use native.Mathlib.Omega.{arith}
-use mathlib.Core.Bool.{Bool, true, false}
-use lib.Dec.{eqb}
-use Rattle.table.specs.Refusals.{cut, overlong, tooLarge}
-use Rattle.table.proofs.Laws.{along}
+use mathlib.Core.Bool.{true, false}
+use Rattle.table.specs.Refusals.{cut, tooLarge}
 use native.Mathlib.Nat.{add-mul, mul-assoc, mul-comm, mul-left-comm}
 use native.Mathlib.Numerals.{add-one}
 use lib.ListN.{length, drop, getD, set, length-set, drop-of-length-le}
 use lib.Arith.{digits-lt}
 use lib.Seq.{sets, drop-cons}
-use Rattle.number.specs.Reading.{Told, value, refused, high, mostLater, lastGroup, tenthByte, below, groups, readNumber}
+use Rattle.number.specs.Reading.{Told, value, refused, high, mostLater, tenthByte, below, groups, readNumber}
 use Rattle.number.specs.Writing.{bytesOf, numberBytes, fits, wrote}
 use Rattle.number.specs.Contracts.{WritesNumber}
 use Rattle.number.specs.declared.NumberWritten.the-variants.{Length, NoRoom}
@@ -97,7 +95,7 @@ pub record Passed (s : List ℕ) (place next passed weight : ℕ) : Type 0 where
   pub few : next + later ≡ place + mostLater
   pub small : passed < weight
   pub room : cap later * weight ≡ 2 ^ 64
-  pub whole : readNumber s place ≡ onto passed weight (groups later false next (drop next s))
+  pub whole : readNumber s place ≡ onto passed weight (groups later next (drop next s))
 
 -- the groups above a first one, and above those passed
 below-onto : (g : ℕ) (t : Told) → below g t ≡ onto g high t
@@ -111,38 +109,33 @@ onto-below : (passed weight g : ℕ) (t : Told) → onto passed weight (below g 
 onto-below passed weight g (value v next) = ap (λ (n : ℕ). value n next) (shifted passed weight g v)
 onto-below passed weight g (refused n) = refl
 
-onto-last : (passed weight b next : ℕ) → onto passed weight (lastGroup false b b next) ≡ lastGroup false b (b * weight + passed) next
-unfolding lastGroup
-onto-last passed weight b next = along (onto passed weight) (eqb b 0) (refused overlong) (value b next)
-
 -- the reader's definition, one byte at a time
-pub at-end : (later : ℕ) (first : Bool) (s : List ℕ) (place : ℕ) → length s ≤ place → groups later first place (drop place s) ≡ refused cut
+pub at-end : (later : ℕ) (s : List ℕ) (place : ℕ) → length s ≤ place → groups later place (drop place s) ≡ refused cut
 unfolding groups
-at-end later first s place h = rw (drop-of-length-le s h)
+at-end later s place h = rw (drop-of-length-le s h)
 
-pub at-more : (later : ℕ) (first : Bool) (s : List ℕ) (place : ℕ) → place < length s → high ≤ getD s place 0
-    → groups (suc later) first place (drop place s) ≡ below (getD s place 0 - high) (groups later false (place + 1) (drop (place + 1) s))
+pub at-more : (later : ℕ) (s : List ℕ) (place : ℕ) → place < length s → high ≤ getD s place 0
+    → groups (suc later) place (drop place s) ≡ below (getD s place 0 - high) (groups later (place + 1) (drop (place + 1) s))
 unfolding groups
-at-more later first s place h k = rw (drop-cons s place 0 h, le-ltb (getD s place 0) high k, add-one)
+at-more later s place h k = rw (drop-cons s place 0 h, le-ltb (getD s place 0) high k, add-one)
 
-pub at-last : (later : ℕ) (first : Bool) (s : List ℕ) (place : ℕ) → place < length s → getD s place 0 < high
-    → groups (suc later) first place (drop place s) ≡ lastGroup first (getD s place 0) (getD s place 0) (place + 1)
+pub at-last : (later : ℕ) (s : List ℕ) (place : ℕ) → place < length s → getD s place 0 < high
+    → groups (suc later) place (drop place s) ≡ value (getD s place 0) (place + 1)
 unfolding groups
-at-last later first s place h k = rw (drop-cons s place 0 h, lt-ltb (getD s place 0) high k, add-one)
+at-last later s place h k = rw (drop-cons s place 0 h, lt-ltb (getD s place 0) high k, add-one)
 
-pub at-tenth : (first : Bool) (s : List ℕ) (place : ℕ) → place < length s
-    → groups zero first place (drop place s) ≡ tenthByte first (getD s place 0) (place + 1)
+pub at-tenth : (s : List ℕ) (place : ℕ) → place < length s → groups zero place (drop place s) ≡ tenthByte (getD s place 0) (place + 1)
 unfolding groups
-at-tenth first s place h = rw (drop-cons s place 0 h, add-one)
+at-tenth s place h = rw (drop-cons s place 0 h, add-one)
 
 -- the first byte: none, or the whole number
 pub first-cut : (s : List ℕ) (place : ℕ) → length s ≤ place → readNumber s place ≡ refused cut
 unfolding readNumber
-first-cut s place h = at-end mostLater true s place h
+first-cut s place h = at-end mostLater s place h
 
 pub first-last : (s : List ℕ) (place : ℕ) → place < length s → getD s place 0 < high → readNumber s place ≡ value (getD s place 0) (place + 1)
-unfolding readNumber lastGroup
-first-last s place h k = at-last 8 true s place h k
+unfolding readNumber
+first-last s place h k = at-last 8 s place h k
 
 pub passed-start : (s : List ℕ) (place : ℕ) → place < length s → high ≤ getD s place 0 → getD s place 0 < 256
     → Passed s place (place + 1) (getD s place 0 - high) high
@@ -153,12 +146,12 @@ passed-start s place h k u =
       few = omega arith;
       small = omega arith;
       room = refl;
-      whole = at-more 8 true s place h k ∙ below-onto (getD s place 0 - high) (groups 8 false (place + 1) (drop (place + 1) s));
+      whole = at-more 8 s place h k ∙ below-onto (getD s place 0 - high) (groups 8 (place + 1) (drop (place + 1) s));
     }
 
 module _ {s : List ℕ} {place next passed weight : ℕ} (p : Passed s place next passed weight) where
   pub passed-cut : length s ≤ next → readNumber s place ≡ refused cut
-  passed-cut h = p .whole ∙ ap (onto passed weight) (at-end (p .later) false s next h)
+  passed-cut h = p .whole ∙ ap (onto passed weight) (at-end (p .later) s next h)
 
   -- a value below the cap, at its weight, fits with those passed
   under-cap : (v : ℕ) → v < cap (p .later) → v * weight + passed < 2 ^ 64
@@ -185,8 +178,8 @@ module _ {s : List ℕ} {place next passed weight : ℕ} (p : Passed s place nex
     pub weight-fits : weight * high < 2 ^ 64
     weight-fits = omega (arith, group-fits high (omega arith))
 
-    whole-left : readNumber s place ≡ onto passed weight (groups (suc left) false next (drop next s))
-    whole-left = p .whole ∙ ap (λ (n : ℕ). onto passed weight (groups n false next (drop next s))) one
+    whole-left : readNumber s place ≡ onto passed weight (groups (suc left) next (drop next s))
+    whole-left = p .whole ∙ ap (λ (n : ℕ). onto passed weight (groups n next (drop next s))) one
 
     room-left : cap left * (weight * high) ≡ 2 ^ 64
     room-left = simp (mul-left-comm, mul-comm) (simp (mul-assoc, mul-comm) at (rw one at (p .room)))
@@ -199,20 +192,20 @@ module _ {s : List ℕ} {place next passed weight : ℕ} (p : Passed s place nex
           small = rw (mul-comm weight high) (digits-lt (omega arith) (p .small));
           room = room-left;
           whole =
-              whole-left ∙ ap (onto passed weight) (at-more left false s next n k)
-              ∙ onto-below passed weight (getD s next 0 - high) (groups left false (next + 1) (drop (next + 1) s));
+              whole-left ∙ ap (onto passed weight) (at-more left s next n k)
+              ∙ onto-below passed weight (getD s next 0 - high) (groups left (next + 1) (drop (next + 1) s));
         }
 
-    pub passed-last : next < length s → getD s next 0 < high → readNumber s place ≡ lastGroup false (getD s next 0) (getD s next 0 * weight + passed) (next + 1)
-    passed-last n k = whole-left ∙ ap (onto passed weight) (at-last left false s next n k) ∙ onto-last passed weight (getD s next 0) (next + 1)
+    pub passed-last : next < length s → getD s next 0 < high → readNumber s place ≡ value (getD s next 0 * weight + passed) (next + 1)
+    passed-last n k = whole-left ∙ ap (onto passed weight) (at-last left s next n k)
 
   -- ---- the tenth
   module _ (h : place + mostLater ≤ next) (n : next < length s) where
     none : p .later ≡ 0
     none = omega (arith, p .few)
 
-    tenth : readNumber s place ≡ onto passed weight (tenthByte false (getD s next 0) (next + 1))
-    tenth = p .whole ∙ ap (λ (l : ℕ). onto passed weight (groups l false next (drop next s))) none ∙ ap (onto passed weight) (at-tenth false s next n)
+    tenth : readNumber s place ≡ onto passed weight (tenthByte (getD s next 0) (next + 1))
+    tenth = p .whole ∙ ap (λ (l : ℕ). onto passed weight (groups l next (drop next s))) none ∙ ap (onto passed weight) (at-tenth s next n)
 
     pub tenth-fits : getD s next 0 ≤ 1 → getD s next 0 * weight + passed < 2 ^ 64
     tenth-fits k = under-cap (getD s next 0) (rw none (omega arith))
@@ -221,6 +214,6 @@ module _ {s : List ℕ} {place next passed weight : ℕ} (p : Passed s place nex
     unfolding tenthByte
     tenth-large k = rw (lt-ltb 1 (getD s next 0) k) at tenth
 
-    pub tenth-last : getD s next 0 ≤ 1 → readNumber s place ≡ lastGroup false (getD s next 0) (getD s next 0 * weight + passed) (next + 1)
+    pub tenth-last : getD s next 0 ≤ 1 → readNumber s place ≡ value (getD s next 0 * weight + passed) (next + 1)
     unfolding tenthByte
-    tenth-last k = (rw (le-ltb 1 (getD s next 0) k) at tenth) ∙ onto-last passed weight (getD s next 0) (next + 1)
+    tenth-last k = rw (le-ltb 1 (getD s next 0) k) at tenth

@@ -1,6 +1,6 @@
 -- The groups written for a value have that value, and no others that have it are fewer.
 use Prim.Native.Nat.{ℕ, zero, suc, _+_, _*_, _/_, _≤_, _<_}
-use mathlib.Core.List.{List, [], _∷_, map}
+use mathlib.Core.List.{List, [], _∷_}
 use mathlib.Core.Path.{_≡_, sym, subst}
 use native.Mathlib.Omega.{arith}
 use borrow.Author.Tests.{le-ltb}
@@ -8,28 +8,13 @@ use lib.ListN.{length}
 use Rattle.table.proofs.Laws.{by-order}
 use Rattle.number.specs.Reading.{high, mostLater}
 use Rattle.number.specs.Writing.{bytesOf, numberBytes}
-use Rattle.number.specs.Laws.{valueOf, group, Sevens, WritesValue, Fewest}
-use Rattle.number.proofs.Groups.{cap, last}
-
--- ---- the value, by induction over the groups that may follow
-
-one-value : (later v : ℕ) → v < high → valueOf (map group (bytesOf later v)) ≡ v
-one-value later v h = rw (last later v h) (omega arith)
-
-more-value : (later v : ℕ) → high ≤ v → valueOf (map group (bytesOf later (v / high))) ≡ v / high → valueOf (map group (bytesOf (suc later) v)) ≡ v
-unfolding bytesOf
-more-value later v h ih = rw (le-ltb v high h) (omega arith)
-
-value-back : (later v : ℕ) → v < cap later → valueOf (map group (bytesOf later v)) ≡ v
-value-back zero v h = one-value zero v (omega arith)
-value-back (suc later) v h =
-    by-order v high
-    (λ l. one-value (suc later) v l)
-    (λ m. more-value later v m (value-back later (v / high) (omega arith)))
+use Rattle.number.specs.Laws.{valueOf, Sevens, WritesValue, Fewest}
+use Rattle.number.proofs.Groups.{last}
+use Rattle.number.proofs.Padded.{groups-of, spelt}
 
 pub writes-value : WritesValue
 unfolding numberBytes
-writes-value v h = value-back mostLater v h
+writes-value v h = let g = spelt mostLater v h in rw (g .bytes, groups-of (g .first) (g .others) (g .sevens)) (g .says)
 
 -- ---- the number of groups: taking a group off a value takes one off any groups that have it
 

@@ -1,11 +1,10 @@
 -- What each function promises, cited by its `ensures` and, of the public ones, by `Determined` in Laws.
 use Prim.Native.Nat.{ℕ, _≤_, _<_}
-use mathlib.Core.Bool.{false}
 use mathlib.Core.List.{List}
 use mathlib.Core.Path.{_≡_}
 use lib.ListN.{length}
 use Rattle.table.specs.Results.{Leaves}
-use Rattle.number.specs.Reading.{lastGroup, readNumber, tells}
+use Rattle.number.specs.Reading.{readNumber, tells}
 use Rattle.number.specs.Writing.{numberBytes, writeNumber, bufferAfter, tellsWritten}
 use Rattle.number.specs.declared.NumberRead.{NumberRead}
 use Rattle.number.specs.declared.NumberWritten.{NumberWritten}
@@ -19,10 +18,6 @@ pub record Fewer (a b r : ℕ) : Type 0 where
 -- `read_number` of the slice s at a place
 abbrev pub ReadsNumber : List ℕ → ℕ → NumberRead → Type 0
 ReadsNumber s place r = tells r ≡ readNumber s place
-
--- `last_group`, of a group after others
-abbrev pub EndsNumber : (g v next : ℕ) → NumberRead → Type 0
-EndsNumber g v next r = tells r ≡ lastGroup false g v next
 
 -- `number_length` of v
 abbrev pub CountsBytes : ℕ → ℕ → Type 0

@@ -3,8 +3,10 @@ use Prim.Native.Nat.{ℕ, _+_, _*_, _%_, _^_, _≤_, _<_}
 use mathlib.Core.List.{List, [], _∷_, _++_, map}
 use mathlib.Core.Logic.{_↔_, _⊎_}
 use mathlib.Core.Path.{_≡_}
-use lib.ListN.{length, drop}
-use Rattle.table.specs.Refusals.{cut, overlong, tooLarge, noRoom}
+use lib.Dec.{ltb}
+use lib.ListN.{length, drop, replicate}
+use Rattle.table.specs.Choice.{pick}
+use Rattle.table.specs.Refusals.{cut, tooLarge, noRoom}
 use Rattle.table.specs.Results.{TellsOnce, Determines, DeterminesLent}
 use Rattle.number.specs.Reading.{value, high, mostLater, readNumber, tells}
 use Rattle.number.specs.Reading as reading
@@ -63,6 +65,53 @@ WritesValue = (v : ℕ) → v < 2 ^ 64 → valueOf (map group (numberBytes v)) �
 abbrev pub Fewest : Type 0
 Fewest = (g : ℕ) (gs : List ℕ) → Sevens (g ∷ gs) → length (numberBytes (valueOf (g ∷ gs))) ≤ length (g ∷ gs)
 
+-- ---- whatever groups stand there (proofs/Padded, proofs/Refusals)
+
+-- groups as bytes: each but the last says that another follows
+abbrev pub asBytes : List ℕ → List ℕ
+asBytes [] = []
+asBytes (g ∷ []) = g ∷ []
+asBytes (g ∷ h ∷ gs) = (high + g) ∷ asBytes (h ∷ gs)
+
+-- one to ten groups of seven bits stand at a place, zero groups at the end or none, whatever follows them
+pub record GroupsStand (s : List ℕ) (place : ℕ) (gs : List ℕ) : Type 0 where
+  pub some : 0 < length gs
+  pub few : length gs ≤ mostLater + 1
+  pub sevens : Sevens gs
+  pub rest : List ℕ
+  pub whole : drop place s ≡ asBytes gs ++ rest
+
+-- they are read to their value, with the place after them; a value of 2^64 or more is Too large
+abbrev pub GroupsRead : Type 0
+GroupsRead =
+    (s : List ℕ) (place : ℕ) (gs : List ℕ) → GroupsStand s place gs
+    → readNumber s place
+    ≡ pick (ltb (valueOf gs) (2 ^ 64)) (value (valueOf gs) (place + length gs)) (reading.refused tooLarge)
+
+-- groups that differ only by n zero groups at the end are read to the same value, each with the place after its own
+abbrev pub PaddedAlike : Type 0
+PaddedAlike =
+    (s t : List ℕ) (place at : ℕ) (gs : List ℕ) (n v : ℕ)
+    → GroupsStand s place gs → GroupsStand t at (gs ++ replicate n 0)
+    → readNumber s place ≡ value v (place + length gs) ↔ readNumber t at ≡ value v (at + (length gs + n))
+
+-- each is a byte
+abbrev pub Bytes : List ℕ → Type 0
+Bytes [] = Unit
+Bytes (b ∷ bs) = (b < 256) × Bytes bs
+
+-- the value v, under 2^64, of groups that stand at a place, before the place `next`
+pub record IsValue (s : List ℕ) (place v next : ℕ) : Type 0 where
+  pub gs : List ℕ
+  pub stands : GroupsStand s place gs
+  pub says : v ≡ valueOf gs
+  pub small : v < 2 ^ 64
+  pub far : next ≡ place + length gs
+
+-- whatever is read without fault is the value of the groups that stand there
+abbrev pub ReadIsValue : Type 0
+ReadIsValue = (s : List ℕ) (place v next : ℕ) → Bytes s → readNumber s place ≡ value v next → IsValue s place v next
+
 -- ---- each refusal exactly when (proofs/Refusals)
 
 -- each byte says that another follows
@@ -77,18 +126,6 @@ pub record EndsEarly (bytes : List ℕ) : Type 0 where
 
 abbrev pub CutExactly : Type 0
 CutExactly = (s : List ℕ) (place : ℕ) → readNumber s place ≡ reading.refused cut ↔ EndsEarly (drop place s)
-
--- 8: one to nine bytes say that another follows, and then comes zero
-pub record EndsInZero (bytes : List ℕ) : Type 0 where
-  pub others : List ℕ
-  pub rest : List ℕ
-  pub whole : bytes ≡ others ++ (0 ∷ rest)
-  pub followed : Followed others
-  pub some : 0 < length others
-  pub few : length others ≤ mostLater
-
-abbrev pub OverlongExactly : Type 0
-OverlongExactly = (s : List ℕ) (place : ℕ) → readNumber s place ≡ reading.refused overlong ↔ EndsInZero (drop place s)
 
 -- 9: nine bytes say that another follows, and the tenth is 2 or more
 pub record TenthTooLarge (bytes : List ℕ) : Type 0 where
@@ -107,7 +144,7 @@ TooLargeExactly =
 -- the reader gives no other refusal
 abbrev pub RefusesNoOther : Type 0
 RefusesNoOther =
-    (s : List ℕ) (place n : ℕ) → readNumber s place ≡ reading.refused n → (n ≡ cut) ⊎ ((n ≡ overlong) ⊎ (n ≡ tooLarge))
+    (s : List ℕ) (place n : ℕ) → readNumber s place ≡ reading.refused n → (n ≡ cut) ⊎ (n ≡ tooLarge)
 
 -- 10: the bytes of the value do not fit between the place and the buffer's end
 abbrev pub NoRoomExactly : Type 0
@@ -120,18 +157,3 @@ abbrev pub NoRoomKeeps : Type 0
 NoRoomKeeps =
     (v : ℕ) (buffer : List ℕ) (place : ℕ) → writeNumber v buffer place ≡ writing.refused noRoom
     → bufferAfter v buffer place ≡ buffer
-
--- ---- one form for each value (proofs/OneForm, cited only by the file of that name in `trace`)
-
--- each is a byte
-abbrev pub Bytes : List ℕ → Type 0
-Bytes [] = Unit
-Bytes (b ∷ bs) = (b < 256) × Bytes bs
-
--- a number read without fault stands there byte for byte as it is written, before what follows it
-pub record StandsAsWritten (s : List ℕ) (place v next : ℕ) : Type 0 where
-  pub small : v < 2 ^ 64
-  pub whole : drop place s ≡ numberBytes v ++ drop next s
-
-abbrev pub OneForm : Type 0
-OneForm = (s : List ℕ) (place v next : ℕ) → Bytes s → readNumber s place ≡ value v next → StandsAsWritten s place v next

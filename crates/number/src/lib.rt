@@ -1,6 +1,6 @@
 // Numbers of a trace: groups of seven bits, lowest first, the high bit set if another follows.
-// Reading takes the one shortest form alone; writing gives it.
-ghost use Rattle.number.specs.Contracts.{Fewer, EndsNumber, ReadsNumber, CountsBytes, WritesNumber};
+// Reading takes zero groups at the end too; writing gives the one shortest form.
+ghost use Rattle.number.specs.Contracts.{Fewer, ReadsNumber, CountsBytes, WritesNumber};
 
 // Each group counts 128 times the one before; in a byte this is the high bit, set where another follows.
 const HIGH: u64 = 128;
@@ -12,7 +12,6 @@ const MOST_BETWEEN: usize = 8;
 pub enum NumberRead {
     Value { value: u64, next: usize },
     Cut,
-    Overlong,
     TooLarge,
 }
 
@@ -20,16 +19,6 @@ pub enum NumberRead {
 pub enum NumberWritten {
     Length(usize),
     NoRoom,
-}
-
-// A last group of zero after others is not the shortest form.
-fn last_group(group: u64, value: u64, next: usize) -> NumberRead
-    ensures { λ r. ⌜ EndsNumber group value next r ⌝ }
-{
-    if group == 0 {
-        return NumberRead::Overlong;
-    }
-    NumberRead::Value { value, next }
 }
 
 fn fewer(a: usize, b: usize) -> usize
@@ -60,7 +49,10 @@ pub fn read_number(s: &[u8], place: usize) -> NumberRead
         next += 1;
         left -= 1;
         if b < HIGH {
-            return last_group(b, b * weight + value, next);
+            return NumberRead::Value {
+                value: b * weight + value,
+                next,
+            };
         }
         value = (b - HIGH) * weight + value;
         weight = weight * HIGH;
@@ -72,7 +64,10 @@ pub fn read_number(s: &[u8], place: usize) -> NumberRead
     if 1 < b {
         return NumberRead::TooLarge;
     }
-    last_group(b, b * weight + value, next + 1)
+    NumberRead::Value {
+        value: b * weight + value,
+        next: next + 1,
+    }
 }
 
 // How many bytes a value takes.

@@ -101,7 +101,6 @@ fn number_reply(place: usize, read: NumberRead) -> NumberReply
             refusal: 0,
         },
         NumberRead::Cut => no_number(place, table::CUT),
-        NumberRead::Overlong => no_number(place, table::OVERLONG),
         NumberRead::TooLarge => no_number(place, table::TOO_LARGE),
     }
 }
@@ -155,7 +154,6 @@ fn event_reply(place: usize, read: EventRead) -> EventReply
         EventRead::End => no_event(place, FOUND_END, 0),
         EventRead::BadEvent(_) => no_event(place, FOUND_FAULT, table::BAD_EVENT),
         EventRead::Cut(_) => no_event(place, FOUND_FAULT, table::CUT),
-        EventRead::Overlong(_) => no_event(place, FOUND_FAULT, table::OVERLONG),
         EventRead::TooLarge(_) => no_event(place, FOUND_FAULT, table::TOO_LARGE),
     }
 }
@@ -220,7 +218,6 @@ fn stop_reply(stop: Stop) -> StopReply
         Stop::Budget => at_no_fault(STOPPED_AT_BUDGET, 0),
         Stop::BadEvent(place) => fault_at(table::BAD_EVENT, place),
         Stop::Cut(place) => fault_at(table::CUT, place),
-        Stop::Overlong(place) => fault_at(table::OVERLONG, place),
         Stop::TooLarge(place) => fault_at(table::TOO_LARGE, place),
         Stop::BadState => at_no_fault(0, table::BAD_STATE),
         Stop::NoRoom => at_no_fault(0, table::NO_ROOM),

@@ -2,19 +2,19 @@
 use mathlib.Core.List.{[], _∷_}
 use mathlib.Core.Path.{_≡_, refl, ap}
 use Rattle.table.specs.Choice.{_⇒_, rows}
-use Rattle.table.specs.Refusals.{badState, badEvent, cut, overlong}
+use Rattle.table.specs.Refusals.{badState, badEvent, cut}
 use Rattle.table.specs.Results.{TellsOnce}
 use Rattle.table.proofs.Results.{leads-back, with-lent}
 use Rattle.run.specs.Running.{Halt, atEnd, atBudget, atFault, refused, Told, tellsStop, tells}
 use Rattle.run.specs.Laws.{Determined}
 use Rattle.run.specs.declared.Stop.{Stop}
-use Rattle.run.specs.declared.Stop.the-variants.{End, Budget, BadEvent, Cut, Overlong, TooLarge, BadState, NoRoom}
+use Rattle.run.specs.declared.Stop.the-variants.{End, Budget, BadEvent, Cut, TooLarge, BadState, NoRoom}
 
 -- what is said tells which way to stop said it
 stop : Halt → Stop
 stop atEnd = End
 stop atBudget = Budget
-stop (atFault n place) = rows n ((badEvent ⇒ BadEvent place) ∷ (cut ⇒ Cut place) ∷ (overlong ⇒ Overlong place) ∷ []) (TooLarge place)
+stop (atFault n place) = rows n ((badEvent ⇒ BadEvent place) ∷ (cut ⇒ Cut place) ∷ []) (TooLarge place)
 stop (refused n) = rows n ((badState ⇒ BadState) ∷ []) NoRoom
 
 stops : (r : Stop) → stop (tellsStop r) ≡ r
@@ -23,7 +23,6 @@ stops End = refl
 stops Budget = refl
 stops (BadEvent place) = refl
 stops (Cut place) = refl
-stops (Overlong place) = refl
 stops (TooLarge place) = refl
 stops BadState = refl
 stops NoRoom = refl

@@ -5,7 +5,7 @@ use lib.Dec.{eqb, leb}
 use lib.ListN.{length}
 use lib.Seq.{sets}
 use Rattle.table.specs.Choice.{pick}
-use Rattle.table.specs.Refusals.{badState, badEvent, cut, overlong, tooLarge, noRoom}
+use Rattle.table.specs.Refusals.{badState, badEvent, cut, tooLarge, noRoom}
 use Rattle.event.specs.declared.Event.{Event}
 use Rattle.trace.specs.Reading as reading
 use Rattle.trace.specs.Reading.{readEvent}
@@ -16,7 +16,7 @@ use Rattle.phy.specs.declared.Stepped.{Stepped}
 use Rattle.ledger.specs.Log.{Entry, log, after}
 use Rattle.run.specs.declared.Ran.{Ran}
 use Rattle.run.specs.declared.Stop.{Stop}
-use Rattle.run.specs.declared.Stop.the-variants.{End, Budget, BadEvent, Cut, Overlong, TooLarge, BadState, NoRoom}
+use Rattle.run.specs.declared.Stop.the-variants.{End, Budget, BadEvent, Cut, TooLarge, BadState, NoRoom}
 
 -- how a run stops: at the trace's end, at the budget, at a fault with its number and place, or refused at the start
 pub data Halt : Type 0 where
@@ -94,7 +94,6 @@ tellsStop End = atEnd
 tellsStop Budget = atBudget
 tellsStop (BadEvent place) = atFault badEvent place
 tellsStop (Cut place) = atFault cut place
-tellsStop (Overlong place) = atFault overlong place
 tellsStop (TooLarge place) = atFault tooLarge place
 tellsStop BadState = refused badState
 tellsStop NoRoom = refused noRoom

@@ -15,7 +15,6 @@ pub enum Stop {
     Budget,
     BadEvent(usize),
     Cut(usize),
-    Overlong(usize),
     TooLarge(usize),
     BadState,
     NoRoom,
@@ -68,7 +67,6 @@ fn take_events(phy: Phy, trace: &[u8], budget: usize, buffer: &mut [u8]) -> Ran
             EventRead::End => return stopped(state, count, Stop::End),
             EventRead::BadEvent(first) => return stopped(state, count, Stop::BadEvent(first)),
             EventRead::Cut(first) => return stopped(state, count, Stop::Cut(first)),
-            EventRead::Overlong(first) => return stopped(state, count, Stop::Overlong(first)),
             EventRead::TooLarge(first) => return stopped(state, count, Stop::TooLarge(first)),
         }
     }

@@ -29,7 +29,7 @@ wrongProtocol = 6
 abbrev pub cut : ℕ
 cut = 7
 
--- a number is not in its shortest form
+-- a number is not in its shortest form: no longer given, and the number stays taken
 abbrev pub overlong : ℕ
 overlong = 8
 

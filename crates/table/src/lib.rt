@@ -15,6 +15,7 @@ pub const WRONG_PROTOCOL: u64 = 6;
 
 pub const CUT: u64 = 7;
 
+// No longer given: numbers may be padded. The number stays taken.
 pub const OVERLONG: u64 = 8;
 
 pub const TOO_LARGE: u64 = 9;

@@ -2,7 +2,7 @@
 use mathlib.Core.List.{[], _∷_}
 use mathlib.Core.Path.{_≡_, refl}
 use Rattle.table.specs.Choice.{_⇒_, rows}
-use Rattle.table.specs.Refusals.{badEvent, cut, overlong}
+use Rattle.table.specs.Refusals.{badEvent, cut}
 use Rattle.table.specs.Results.{TellsOnce}
 use Rattle.table.proofs.Results.{leads-back, by-telling, by-equation, with-lent}
 use Rattle.trace.specs.Reading.{Told, event, end, tells}
@@ -19,7 +19,7 @@ use Rattle.trace.specs.declared.EventWritten.the-variants as written
 answer : Told → EventRead
 answer (event e next) = read.Event e next
 answer end = read.End
-answer (reading.refused n at) = rows n ((badEvent ⇒ read.BadEvent at) ∷ (cut ⇒ read.Cut at) ∷ (overlong ⇒ read.Overlong at) ∷ []) (read.TooLarge at)
+answer (reading.refused n at) = rows n ((badEvent ⇒ read.BadEvent at) ∷ (cut ⇒ read.Cut at) ∷ []) (read.TooLarge at)
 
 answers : (r : EventRead) → answer (tells r) ≡ r
 unfolding answer
@@ -27,7 +27,6 @@ answers (read.Event e next) = refl
 answers read.End = refl
 answers (read.BadEvent first) = refl
 answers (read.Cut first) = refl
-answers (read.Overlong first) = refl
 answers (read.TooLarge first) = refl
 
 pub read-once : TellsOnce tells

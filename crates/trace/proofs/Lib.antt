@@ -10,4 +10,3 @@ pub mod Accepted
 pub mod RoundTrip
 pub mod Written
 pub mod Calls
-pub mod OneForm

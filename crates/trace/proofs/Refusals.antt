@@ -7,7 +7,7 @@ use mathlib.Core.Path.{_≡_, refl, sym, _∙_}
 use native.Mathlib.Omega.{arith}
 use borrow.Author.Tests.{lt-leb, leb-false}
 use lib.ListN.{length, drop}
-use Rattle.table.specs.Refusals.{badEvent, cut, overlong, tooLarge}
+use Rattle.table.specs.Refusals.{badEvent, cut, tooLarge}
 use Rattle.table.proofs.Laws.{apart, by-test}
 use Rattle.number.specs.Reading.{value, readNumber}
 use Rattle.number.specs.Reading as number
@@ -18,7 +18,7 @@ use Rattle.event.specs.declared.Range.{Range}
 use Rattle.trace.specs.Reading.{refused, fault, inRange, arguments, readEvent}
 use Rattle.trace.specs.Writing.{wrote, eventBytes, fits}
 use Rattle.trace.specs.Writing as writing
-use Rattle.trace.specs.Laws.{Reaches, Comes, Faulty, CutExactly, OverlongExactly, TooLargeExactly, BadEventExactly, RefusesNoOther, FaultAtFirst, EndExactly, WriterBadEventExactly, NoRoomExactly, RefusedKeeps}
+use Rattle.trace.specs.Laws.{Reaches, Comes, Faulty, CutExactly, TooLargeExactly, BadEventExactly, RefusesNoOther, FaultAtFirst, EndExactly, WriterBadEventExactly, NoRoomExactly, RefusedKeeps}
 use Rattle.trace.proofs.First.{at-end, code-fault, code-bad, code-good}
 use Rattle.trace.proofs.Why.{Stops, unread, outside, because}
 
@@ -46,7 +46,7 @@ unread-of (outside e w) h = absurd (h refl)
 
 outside-of : {s : List ℕ} {range : Range} {at n : ℕ} → Stops s range at n → n ≡ badEvent → (v : ℕ) × (next : ℕ) × (readNumber s at ≡ value v next) × (within range v ≡ false)
 outside-of {s} {at = at} {n} (unread e) h =
-    absurd (⊎-elim (λ p. omega arith) (⊎-elim (λ p. omega arith) (λ p. omega arith)) (number-laws.refuses-no-other s at n e))
+    absurd (⊎-elim (λ p. omega arith) (λ p. omega arith) (number-laws.refuses-no-other s at n e))
 outside-of (outside {v} {next} e w) h = (v, next, e, w)
 
 -- ---- exactly when: a refusal of the event is one of the number that is come to
@@ -61,9 +61,6 @@ exactly n ne law s place = (
 pub cut-exactly : CutExactly
 cut-exactly = exactly cut (λ p. omega arith) number-laws.cut-exactly
 
-pub overlong-exactly : OverlongExactly
-overlong-exactly = exactly overlong (λ p. omega arith) number-laws.overlong-exactly
-
 pub too-large-exactly : TooLargeExactly
 too-large-exactly = exactly tooLarge (λ p. omega arith) number-laws.too-large-exactly
 
@@ -76,7 +73,7 @@ bad-event-exactly s place = (
   λ o. come-to (o .comes) (outside (o .reads) (o .out)),
 )
 
-stopped-by : {s : List ℕ} {range : Range} {at n : ℕ} → Stops s range at n → (n ≡ badEvent) ⊎ ((n ≡ cut) ⊎ ((n ≡ overlong) ⊎ (n ≡ tooLarge)))
+stopped-by : {s : List ℕ} {range : Range} {at n : ℕ} → Stops s range at n → (n ≡ badEvent) ⊎ ((n ≡ cut) ⊎ (n ≡ tooLarge))
 stopped-by {s} {at = at} {n} (unread e) = inr (number-laws.refuses-no-other s at n e)
 stopped-by (outside e w) = inl refl
 

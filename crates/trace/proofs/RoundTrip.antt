@@ -44,7 +44,7 @@ arguments-back (range ∷ ranges) (v ∷ vs) w small l s place rest e =
 -- ---- the event
 
 -- its bytes are those of its code and then those of the arguments that it has
-pub parts : (e : Event) → eventBytes e ≡ numberBytes (e .code) ++ bytesOf (take (length (argumentsOf (e .code))) (sixOf e))
+parts : (e : Event) → eventBytes e ≡ numberBytes (e .code) ++ bytesOf (take (length (argumentsOf (e .code))) (sixOf e))
 unfolding eventBytes bytesOf argumentCount
 parts e = refl
 

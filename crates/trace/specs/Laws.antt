@@ -1,16 +1,16 @@
 -- What is promised of events of a trace beyond the contracts. A heading names the files of proofs/.
 use Prim.Native.Nat.{ℕ, _+_, _≤_, _<_}
 use mathlib.Core.Bool.{true, false}
-use mathlib.Core.List.{List, [], _∷_, _++_, map}
+use mathlib.Core.List.{List, [], _∷_, map}
 use mathlib.Core.Logic.{_↔_, _⊎_}
 use mathlib.Core.Path.{_≡_}
 use lib.ListN.{length, take, drop, replicate}
 use lib.Seq.{sets}
 use denote.Ref.{RefT, now}
-use Rattle.table.specs.Refusals.{badEvent, cut, overlong, tooLarge, noRoom}
+use Rattle.table.specs.Refusals.{badEvent, cut, tooLarge, noRoom}
 use Rattle.table.specs.Results.{TellsOnce, Determines, DeterminesLent}
 use Rattle.number.specs.Reading.{value, readNumber}
-use Rattle.number.specs.Laws.{EndsEarly, EndsInZero, TenthTooLarge, Bytes}
+use Rattle.number.specs.Laws.{EndsEarly, TenthTooLarge}
 use Rattle.event.specs.Table.{eventOf, argumentsOf, within, codeKnown, knownOf, codes}
 use Rattle.event.specs.declared.Event.{Event}
 use Rattle.event.specs.declared.Range.{Range}
@@ -122,11 +122,6 @@ pub record Faulty (s : List ℕ) (place : ℕ) (fault : List ℕ → Type 0) : T
 abbrev pub CutExactly : Type 0
 CutExactly = (s : List ℕ) (place : ℕ) → readEvent s place ≡ reading.refused cut place ↔ Faulty s place EndsEarly
 
--- 8: a number that the reader reaches is not in its shortest form
-abbrev pub OverlongExactly : Type 0
-OverlongExactly =
-    (s : List ℕ) (place : ℕ) → readEvent s place ≡ reading.refused overlong place ↔ Faulty s place EndsInZero
-
 -- 9: a number that the reader reaches is 2^64 or more
 abbrev pub TooLargeExactly : Type 0
 TooLargeExactly =
@@ -149,7 +144,7 @@ BadEventExactly = (s : List ℕ) (place : ℕ) → readEvent s place ≡ reading
 abbrev pub RefusesNoOther : Type 0
 RefusesNoOther =
     (s : List ℕ) (place n at : ℕ) → readEvent s place ≡ reading.refused n at
-    → (n ≡ badEvent) ⊎ ((n ≡ cut) ⊎ ((n ≡ overlong) ⊎ (n ≡ tooLarge)))
+    → (n ≡ badEvent) ⊎ ((n ≡ cut) ⊎ (n ≡ tooLarge))
 
 -- every fault is told with the place of the event's first byte, gives a zero event and does not move the place
 pub record AtFirstByte (s : List ℕ) (place at : ℕ) : Type 0 where
@@ -313,19 +308,3 @@ CalledBack =
     → now trace ≡ take last after → StartsReader trace start → Calls start rs middle → length rs ≡ length es
     → TakesNext middle r there
     → (map (λ q. eventGiven (tells q)) rs ≡ es) × (tells r ≡ end)
-
--- ---- one form for each event (proofs/OneForm)
-
--- an event read stands there byte for byte as it is written, before what follows it
-abbrev pub OneForm : Type 0
-OneForm =
-    (s : List ℕ) (place : ℕ) (e : Event) (next : ℕ) → Bytes s → readEvent s place ≡ event e next
-    → drop place s ≡ eventBytes e ++ drop next s
-
--- a trace read to its end without fault is the writing of the events read
-abbrev pub TraceOneForm : Type 0
-TraceOneForm = (s : List ℕ) (es : List Event) → Bytes s → ReadsAll s 0 es → s ≡ traceBytes es
-
--- two traces with the same events are the same bytes
-abbrev pub SameBytes : Type 0
-SameBytes = (s t : List ℕ) (es : List Event) → Bytes s → Bytes t → ReadsAll s 0 es → ReadsAll t 0 es → s ≡ t

@@ -4,14 +4,14 @@ use mathlib.Core.List.{List, [], _∷_}
 use lib.Dec.{leb}
 use lib.ListN.{length}
 use Rattle.table.specs.Choice.{pick}
-use Rattle.table.specs.Refusals.{badEvent, cut, overlong, tooLarge}
+use Rattle.table.specs.Refusals.{badEvent, cut, tooLarge}
 use Rattle.number.specs.Reading.{value, readNumber}
 use Rattle.number.specs.Reading as number
 use Rattle.event.specs.Table.{eventOf, argumentsOf, within, codes}
 use Rattle.event.specs.declared.Event.{Event}
 use Rattle.event.specs.declared.Range.{Range}
 use Rattle.trace.specs.declared.EventRead.{EventRead}
-use Rattle.trace.specs.declared.EventRead.the-variants.{Event as Known, End, BadEvent, Cut, Overlong, TooLarge}
+use Rattle.trace.specs.declared.EventRead.the-variants.{Event as Known, End, BadEvent, Cut, TooLarge}
 
 -- what reading says: an event and the place after it, the trace's end, or a refusal and where its event starts
 pub data Told : Type 0 where
@@ -80,5 +80,4 @@ tells (Known e next) = event e next
 tells End = end
 tells (BadEvent first) = refused badEvent first
 tells (Cut first) = refused cut first
-tells (Overlong first) = refused overlong first
 tells (TooLarge first) = refused tooLarge first

@@ -18,7 +18,6 @@ pub enum EventRead {
     End,
     BadEvent(usize),
     Cut(usize),
-    Overlong(usize),
     TooLarge(usize),
 }
 
@@ -60,7 +59,6 @@ fn read_arguments(s: &[u8], code: u64, place: usize, first: usize) -> EventRead
                 }
             }
             NumberRead::Cut => return EventRead::Cut(first),
-            NumberRead::Overlong => return EventRead::Overlong(first),
             NumberRead::TooLarge => return EventRead::TooLarge(first),
         }
     }
@@ -93,7 +91,6 @@ pub fn event_at(trace: &[u8], place: usize) -> EventRead
             }
         }
         NumberRead::Cut => EventRead::Cut(place),
-        NumberRead::Overlong => EventRead::Overlong(place),
         NumberRead::TooLarge => EventRead::TooLarge(place),
     }
 }
@@ -107,7 +104,6 @@ pub fn place_reached(read: EventRead, place: usize) -> usize
         EventRead::End => place,
         EventRead::BadEvent(_) => place,
         EventRead::Cut(_) => place,
-        EventRead::Overlong(_) => place,
         EventRead::TooLarge(_) => place,
     }
 }

@@ -27,15 +27,11 @@ returns-4 c = rw (read (c .before .before .before .before .before .before .befor
 returns-5 : tie.Need-returns-5
 returns-5 c = rw (read (c .before .before .before .before .before .before .before) (c .before .before .before .before .before .first3 .given .1)) (c .before .before .put-stop3 .ensures)
 
-returns-6 : tie.Need-returns-6
-returns-6 c = rw (read (c .before .before .before .before .before .before .before) (c .before .before .before .before .before .first4 .given .1)) (c .before .before .put-stop4 .ensures)
-
 pub next-event-spec : {M : Type 1} → statement M
 next-event-spec =
     tie.close
     (tie.spec
     (λ _ _. tt) (λ c. search needs) (λ _ _. tt) (λ _ _. tt) (λ _ _. tt) (λ c. search needs) (λ c. search needs)
     (λ c. search needs) (λ c κs. search needs) (λ c. search needs) (λ _ _. tt) (λ c. search needs) (λ _ _. tt)
-    (λ c. search needs) (λ _ _. tt) (λ c. search needs) (λ _ _. tt) (λ c. search needs) returns (λ c. search needs)
-    returns-2 (λ c. search needs) returns-3 (λ c. search needs) returns-4 (λ c. search needs) returns-5
-    (λ c. search needs) returns-6)
+    (λ c. search needs) (λ _ _. tt) (λ c. search needs) returns (λ c. search needs) returns-2 (λ c. search needs)
+    returns-3 (λ c. search needs) returns-4 (λ c. search needs) returns-5)

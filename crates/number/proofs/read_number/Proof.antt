@@ -1,7 +1,7 @@
 -- `number::read_number` meets its contract: each turn takes one group off the definition, and the groups passed stay below their weight.
 use Prim.Native.Nat.{ℕ, _+_, _≤_, _<_}
 use mathlib.Core.List.{List}
-use mathlib.Core.Path.{sym, _∙_}
+use mathlib.Core.Path.{sym}
 use native.Mathlib.Omega.{arith}
 use lib.ListN.{length}
 use Rattle.number.specs.Reading.{mostLater}
@@ -30,9 +30,8 @@ loop-holds c =
 
 returns-3 : tie.Need-returns-3 Inv-loop μ-loop
 returns-3 c =
-    let e = c .before .before .before .before .loop .inv .1 in
-    c .last-group .ensures
-    ∙ sym (passed-last (c .before .before .before .before .loop .inv .0) (omega (arith, e .before)) (omega (arith, e .inside)) (c .before .if3 .taken))
+    let e = c .before .before .before .loop .inv .1 in
+    sym (passed-last (c .before .before .before .loop .inv .0) (omega (arith, e .before)) (omega (arith, e .inside)) (c .if3 .taken))
 
 loop-again : tie.Need-loop-again Inv-loop μ-loop
 loop-again c =
@@ -43,9 +42,8 @@ loop-again c =
 
 returns-6 : tie.Need-returns-6 Inv-loop μ-loop
 returns-6 c =
-    c .last-group2 .ensures
-    ∙ sym
-    (tenth-last (c .before .before .before .before .before .loop .inv .0) (omega (arith, c .before .before .before .before .before .loop .inv .1 .tenth (omega arith))) (omega arith) (c .before .if5 .left))
+    let p = c .before .before .before .before .loop .inv in
+    sym (tenth-last (p .0) (omega (arith, p .1 .tenth (omega arith))) (omega arith) (c .if5 .left))
 
 pub read-number-spec : {M : Type 1} → statement M
 read-number-spec =
@@ -62,7 +60,7 @@ read-number-spec =
     (λ c. omega arith)
     (λ c. omega (arith, last-fits (c .before .before .before .loop .inv .0) (omega (arith, c .before .before .before .loop .inv .1 .before)) (c .if3 .taken)))
     (λ c. omega (arith, last-fits (c .before .before .before .loop .inv .0) (omega (arith, c .before .before .before .loop .inv .1 .before)) (c .if3 .taken)))
-    (λ _ _. tt) returns-3
+    returns-3
     (λ c. omega (arith, more-fits (c .before .before .before .loop .inv .0) (omega (arith, c .before .before .before .loop .inv .1 .before)) (c .before .shared-slice-known3 .given _ .fits)))
     (λ c. omega (arith, more-fits (c .before .before .before .loop .inv .0) (omega (arith, c .before .before .before .loop .inv .1 .before)) (c .before .shared-slice-known3 .given _ .fits)))
     (λ c. omega (arith, weight-fits (c .before .before .before .loop .inv .0) (omega (arith, c .before .before .before .loop .inv .1 .before))))
@@ -73,4 +71,4 @@ read-number-spec =
     (λ c. sym (tenth-large (c .before .before .before .before .loop .inv .0) (omega (arith, c .before .before .before .before .loop .inv .1 .tenth (omega arith))) (omega arith) (c .if5 .taken)))
     (λ c. omega (arith, tenth-fits (c .before .before .before .before .loop .inv .0) (omega (arith, c .before .before .before .before .loop .inv .1 .tenth (omega arith))) (omega arith) (c .if5 .left)))
     (λ c. omega (arith, tenth-fits (c .before .before .before .before .loop .inv .0) (omega (arith, c .before .before .before .before .loop .inv .1 .tenth (omega arith))) (omega arith) (c .if5 .left)))
-    (λ c. omega arith) (λ _ _. tt) returns-6)
+    (λ c. omega arith) returns-6)

@@ -12,10 +12,9 @@ event-reply-spec =
     tie.close
     (tie.spec
     (λ c. search needs) (λ c. search needs) (λ _ _. tt) (λ c. search needs) (λ _ _. tt) (λ c. search needs)
-    (λ _ _. tt) (λ c. search needs) (λ _ _. tt) (λ c. search needs) (λ _ _. tt)
+    (λ _ _. tt) (λ c. search needs) (λ _ _. tt)
     (λ c. as-matched (λ read. eventReply (c .before .before .before .args .place) (tells read)) (c .before .read .given .1) refl)
     (λ c. as-matched (λ read. eventReply (c .before .before .before .args .place) (tells read)) (c .before .enum-told .given .1) (c .no-event .ensures))
     (λ c. as-matched (λ read. eventReply (c .before .before .before .args .place) (tells read)) (c .before .enum-told2 .given .1) (c .no-event2 .ensures))
     (λ c. as-matched (λ read. eventReply (c .before .before .before .args .place) (tells read)) (c .before .enum-told3 .given .1) (c .no-event3 .ensures))
-    (λ c. as-matched (λ read. eventReply (c .before .before .before .args .place) (tells read)) (c .before .enum-told4 .given .1) (c .no-event4 .ensures))
-    (λ c. as-matched (λ read. eventReply (c .before .before .before .args .place) (tells read)) (c .before .enum-told5 .given .1) (c .no-event5 .ensures)))
+    (λ c. as-matched (λ read. eventReply (c .before .before .before .args .place) (tells read)) (c .before .enum-told4 .given .1) (c .no-event4 .ensures)))

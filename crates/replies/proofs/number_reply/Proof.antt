@@ -11,9 +11,7 @@ pub number-reply-spec : {M : Type 1} → statement M
 number-reply-spec =
     tie.close
     (tie.spec
-    (λ c. search needs) (λ c. search needs) (λ _ _. tt) (λ c. search needs) (λ _ _. tt) (λ c. search needs)
-    (λ _ _. tt)
+    (λ c. search needs) (λ c. search needs) (λ _ _. tt) (λ c. search needs) (λ _ _. tt)
     (λ c. as-matched (λ read. numberReply (c .before .before .before .args .place) (tells read)) (c .before .read .given .1) refl)
     (λ c. as-matched (λ read. numberReply (c .before .before .before .args .place) (tells read)) (c .before .enum-told .given .1) (c .no-number .ensures))
-    (λ c. as-matched (λ read. numberReply (c .before .before .before .args .place) (tells read)) (c .before .enum-told2 .given .1) (c .no-number2 .ensures))
-    (λ c. as-matched (λ read. numberReply (c .before .before .before .args .place) (tells read)) (c .before .enum-told3 .given .1) (c .no-number3 .ensures)))
+    (λ c. as-matched (λ read. numberReply (c .before .before .before .args .place) (tells read)) (c .before .enum-told2 .given .1) (c .no-number2 .ensures)))

@@ -12,12 +12,11 @@ stop-reply-spec =
     (tie.spec
     (λ c. search needs) (λ _ _. tt) (λ c. search needs) (λ _ _. tt) (λ c. search needs) (λ _ _. tt)
     (λ c. search needs) (λ _ _. tt) (λ c. search needs) (λ _ _. tt) (λ c. search needs) (λ _ _. tt)
-    (λ c. search needs) (λ _ _. tt) (λ c. search needs) (λ _ _. tt)
+    (λ c. search needs) (λ _ _. tt)
     (λ c. as-matched (λ stop. stopReply (tellsStop stop)) (c .before .enum-told .given .1) (c .at-no-fault .ensures))
     (λ c. as-matched (λ stop. stopReply (tellsStop stop)) (c .before .enum-told2 .given .1) (c .at-no-fault2 .ensures))
     (λ c. as-matched (λ stop. stopReply (tellsStop stop)) (c .before .before .stop .given .1) (c .fault-at .ensures))
     (λ c. as-matched (λ stop. stopReply (tellsStop stop)) (c .before .before .stop2 .given .1) (c .fault-at2 .ensures))
     (λ c. as-matched (λ stop. stopReply (tellsStop stop)) (c .before .before .stop3 .given .1) (c .fault-at3 .ensures))
-    (λ c. as-matched (λ stop. stopReply (tellsStop stop)) (c .before .before .stop4 .given .1) (c .fault-at4 .ensures))
     (λ c. as-matched (λ stop. stopReply (tellsStop stop)) (c .before .enum-told3 .given .1) (c .at-no-fault3 .ensures))
     (λ c. as-matched (λ stop. stopReply (tellsStop stop)) (c .before .enum-told4 .given .1) (c .at-no-fault4 .ensures)))

@@ -37,13 +37,10 @@ returns-4 : tie.Need-returns-4 Inv-loop μ-loop
 returns-4 c = halted-fault (c .before .before .before .before .before .before .loop .inv) (c .stopped4 .result) (c .before .before .before .before .before .loop-test .taken) (sym (c .before .before .before .before .event-at .ensures) ∙ ap tells (c .before .before .first3 .given .1)) (c .stopped4 .ensures)
 
 returns-5 : tie.Need-returns-5 Inv-loop μ-loop
-returns-5 c = halted-fault (c .before .before .before .before .before .before .loop .inv) (c .stopped5 .result) (c .before .before .before .before .before .loop-test .taken) (sym (c .before .before .before .before .event-at .ensures) ∙ ap tells (c .before .before .first4 .given .1)) (c .stopped5 .ensures)
+returns-5 c = halted-budget (c .before .before .before .loop .inv) (c .stopped5 .result) (c .before .if1 .taken) (c .before .before .loop-test .left) (c .stopped5 .ensures)
 
 returns-6 : tie.Need-returns-6 Inv-loop μ-loop
-returns-6 c = halted-budget (c .before .before .before .loop .inv) (c .stopped6 .result) (c .before .if1 .taken) (c .before .before .loop-test .left) (c .stopped6 .ensures)
-
-returns-7 : tie.Need-returns-7 Inv-loop μ-loop
-returns-7 c = halted-end (c .before .before .before .loop .inv) (c .stopped7 .result) (c .before .if1 .left) (c .stopped7 .ensures)
+returns-6 c = halted-end (c .before .before .before .loop .inv) (c .stopped6 .result) (c .before .if1 .left) (c .stopped6 .ensures)
 
 pub take-events-spec : {M : Type 1} → statement M
 take-events-spec =
@@ -61,10 +58,8 @@ take-events-spec =
     (λ c. c .before .before .before .before .before .before .loop .inv .long)
     returns-3 (λ c. search needs) (λ _ _. tt)
     (λ c. c .before .before .before .before .before .before .loop .inv .long)
-    returns-4 (λ c. search needs) (λ _ _. tt)
-    (λ c. c .before .before .before .before .before .before .loop .inv .long)
+    returns-4 (λ _ _. tt)
+    (λ c. c .before .before .before .loop .inv .long)
     returns-5 (λ _ _. tt)
     (λ c. c .before .before .before .loop .inv .long)
-    returns-6 (λ _ _. tt)
-    (λ c. c .before .before .before .loop .inv .long)
-    returns-7)
+    returns-6)

@@ -26,7 +26,6 @@ event-at-spec =
     tie.close
     (tie.spec
     (λ c. sym (at-end _ _ (c .if1 .taken))) (λ _ _. tt) (λ c. search needs) (λ _ _. tt) (λ _ _. tt)
-    (λ c. search needs) (λ c. search needs) (λ c. search needs) returns-2 returns-3
+    (λ c. search needs) (λ c. search needs) returns-2 returns-3
     (λ c. sym (code-fault _ _ (c .before .before .before .if1 .left) (sym (c .before .before .read-number .ensures) ∙ ap tells (c .enum-told .given .1))))
-    (λ c. sym (code-fault _ _ (c .before .before .before .if1 .left) (sym (c .before .before .read-number .ensures) ∙ ap tells (c .enum-told2 .given .1))))
-    (λ c. sym (code-fault _ _ (c .before .before .before .if1 .left) (sym (c .before .before .read-number .ensures) ∙ ap tells (c .enum-told3 .given .1)))))
+    (λ c. sym (code-fault _ _ (c .before .before .before .if1 .left) (sym (c .before .before .read-number .ensures) ∙ ap tells (c .enum-told2 .given .1)))))

@@ -37,10 +37,7 @@ returns-3 : tie.Need-returns-3 Inv-loop μ-loop
 returns-3 c = sym (ap (said _) (taken-fault (c .before .before .before .before .loop .inv) (omega arith) (sym (c .before .before .read-number .ensures) ∙ ap tells (c .enum-told2 .given .1))))
 
 returns-4 : tie.Need-returns-4 Inv-loop μ-loop
-returns-4 c = sym (ap (said _) (taken-fault (c .before .before .before .before .loop .inv) (omega arith) (sym (c .before .before .read-number .ensures) ∙ ap tells (c .enum-told3 .given .1))))
-
-returns-5 : tie.Need-returns-5 Inv-loop μ-loop
-returns-5 c = sym (ap (said _) (taken-done (c .before .loop .inv) (omega arith)))
+returns-4 c = sym (ap (said _) (taken-done (c .before .loop .inv) (omega arith)))
 
 pub read-arguments-spec : {M : Type 1} → statement M
 read-arguments-spec =
@@ -50,5 +47,5 @@ read-arguments-spec =
     (λ c. omega (arith, six-arguments (c .before .before .before .before .before .before .before .before .before .before .args .code)))
     (λ c. omega (arith, six-arguments (c .before .before .before .before .before .before .before .before .before .before .args .code)))
     (λ c. omega arith) (λ c. omega arith) loop-again returns (λ c. search needs) returns-2 (λ c. search needs)
-    returns-3 (λ c. search needs) returns-4 (λ c. search needs) (λ c. search needs) (λ c. search needs)
-    (λ c. search needs) (λ c. search needs) (λ c. search needs) returns-5)
+    returns-3 (λ c. search needs) (λ c. search needs) (λ c. search needs)
+    (λ c. search needs) (λ c. search needs) (λ c. search needs) returns-4)

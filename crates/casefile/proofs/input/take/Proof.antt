@@ -10,8 +10,7 @@ pub take-spec : {M : Type 1} → statement M
 take-spec =
     tie.close
     (tie.spec
-    (λ _ _. tt) (λ c. search needs) (λ c. search needs) (λ c. search needs) (λ c. search needs)
+    (λ _ _. tt) (λ c. search needs) (λ c. search needs) (λ c. search needs)
     (λ c. takes-value _ _ _ _ (sym (c .before .before .before .read-number .ensures) ∙ ap tells (c .before .value .given .1)))
     (λ c. takes-end _ _ _ (sym (c .before .before .read-number .ensures) ∙ ap tells (c .enum-told .given .1)))
-    (λ c. takes-end _ _ _ (sym (c .before .before .read-number .ensures) ∙ ap tells (c .enum-told2 .given .1)))
-    (λ c. takes-end _ _ _ (sym (c .before .before .read-number .ensures) ∙ ap tells (c .enum-told3 .given .1))))
+    (λ c. takes-end _ _ _ (sym (c .before .before .read-number .ensures) ∙ ap tells (c .enum-told2 .given .1))))
