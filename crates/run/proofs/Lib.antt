@@ -4,4 +4,5 @@ pub mod Determined
 pub mod Refusals
 pub mod Stopping
 pub mod Written
+pub mod Padded
 pub mod Answers

@@ -13,7 +13,7 @@ use Rattle.trace.specs.Reading as reading
 use Rattle.trace.specs.Reading.{readEvent}
 use Rattle.trace.specs.Writing as writing
 use Rattle.trace.specs.Writing.{writeEvent}
-use Rattle.trace.specs.Laws.{Passes, ReadsAll}
+use Rattle.trace.specs.Laws.{Passes, ReadsAll, SameNumbers}
 use Rattle.phy.specs.Shapes.{freshPhy}
 use Rattle.phy.specs.State.{validOf}
 use Rattle.phy.specs.Step.{stepOf}
@@ -128,6 +128,27 @@ NeitherOneNorTwo (b ∷ bs) = ((b ≡ badState → ⊥) × (b ≡ badEvent → �
 abbrev pub NoOneNorTwo : Type 0
 NoOneNorTwo =
     (p : Phy) (s : List ℕ) (budget : ℕ) → validOf p ≡ true → NeitherOneNorTwo (bytesOf p (taking budget s 0 .events))
+
+-- ---- padded numbers (proofs/Padded)
+
+-- how a run stopped, the place of a fault aside
+abbrev pub placeAside : Halt → Halt
+placeAside atEnd = atEnd
+placeAside atBudget = atBudget
+placeAside (atFault n place) = atFault n 0
+placeAside (refused n) = refused n
+
+-- runs over two traces give the same, the place of a fault aside
+pub record RunsAlike (p : Phy) (s t : List ℕ) (budget : ℕ) (buffer : List ℕ) : Type 0 where
+  pub count : runOf p s budget buffer .count ≡ runOf p t budget buffer .count
+  pub state : runOf p s budget buffer .state ≡ runOf p t budget buffer .state
+  pub halt : placeAside (runOf p s budget buffer .halt) ≡ placeAside (runOf p t budget buffer .halt)
+  pub bytes : bufferAfter p s budget buffer ≡ bufferAfter p t budget buffer
+
+-- so it is with traces of the same numbers, padded or not
+abbrev pub PaddedRun : Type 0
+PaddedRun =
+    (p : Phy) (s t : List ℕ) (budget : ℕ) (buffer : List ℕ) → SameNumbers s t 0 0 → RunsAlike p s t budget buffer
 
 -- ---- the answers among the bytes (proofs/Answers)
 

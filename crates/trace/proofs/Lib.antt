@@ -10,3 +10,4 @@ pub mod Accepted
 pub mod RoundTrip
 pub mod Written
 pub mod Calls
+pub mod Padded

@@ -308,3 +308,28 @@ CalledBack =
     → now trace ≡ take last after → StartsReader trace start → Calls start rs middle → length rs ≡ length es
     → TakesNext middle r there
     → (map (λ q. eventGiven (tells q)) rs ≡ es) × (tells r ≡ end)
+
+-- ---- padded numbers (proofs/Padded)
+
+-- the same numbers stand end to end in two traces, from a place of each to its end, each padded or not
+pub data SameNumbers (s t : List ℕ) : ℕ → ℕ → Type 0 where
+  at-ends : {place at : ℕ} → length s ≤ place → length t ≤ at → SameNumbers s t place at
+  in-both :
+      {place at v next after : ℕ}
+      → readNumber s place ≡ value v next → readNumber t at ≡ value v after → SameNumbers s t next after
+      → SameNumbers s t place at
+
+-- what is said of two traces is the same but for the places, and behind an event the same numbers stand
+pub data Alike (s t : List ℕ) : reading.Told → reading.Told → Type 0 where
+  events : {e : Event} {next after : ℕ} → SameNumbers s t next after → Alike s t (event e next) (event e after)
+  ends : Alike s t end end
+  faults : {n place at : ℕ} → Alike s t (reading.refused n place) (reading.refused n at)
+
+-- so it is wherever the same numbers stand
+abbrev pub ReadAlike : Type 0
+ReadAlike =
+    (s t : List ℕ) (place at : ℕ) → SameNumbers s t place at → Alike s t (readEvent s place) (readEvent t at)
+
+-- and a trace is read to the same events whether its numbers are padded or not
+abbrev pub PaddedTrace : Type 0
+PaddedTrace = (s t : List ℕ) (es : List Event) → SameNumbers s t 0 0 → ReadsAll s 0 es → ReadsAll t 0 es
