@@ -8,7 +8,7 @@ use lib.ListN.{length}
 use lib.Seq.{sets}
 use Rattle.event.specs.declared.Event.{Event}
 use Rattle.trace.specs.Reading as reading
-use Rattle.trace.specs.Laws.{SameNumbers, at-ends, in-both, Alike, events, ends, faults}
+use Rattle.trace.specs.Laws.{SameNumbers, at-ends, in-both, at-fault, Alike, events, ends, faults}
 use Rattle.trace.proofs.Padded.{inside, read-alike}
 use Rattle.phy.specs.Step.{stepOf}
 use Rattle.ledger.specs.Log as log
@@ -24,6 +24,7 @@ module _ {s t : List ℕ} where
   ended-alike : {place at : ℕ} → SameNumbers s t place at → leb (length s) place ≡ leb (length t) at
   ended-alike (at-ends {place} {at} h k) = rw (le-leb (length s) place h, le-leb (length t) at k)
   ended-alike (in-both {place} {at} e f r) = rw (lt-leb (length s) place (inside s place e), lt-leb (length t) at (inside t at f))
+  ended-alike (at-fault {place} {at} h k e f) = rw (lt-leb (length s) place h, lt-leb (length t) at k)
 
   on-alike : {x y : reading.Told} (f g : ℕ → Course) → ((next at : ℕ) → SameNumbers s t next at → AlikeTaken (f next) (g at)) → Alike s t x y → AlikeTaken (onwards x f) (onwards y g)
   on-alike f g h (events {e} {next} {after} r) = let a = h next after r in (ap (λ (es : List Event). e ∷ es) (a .0), a .1)

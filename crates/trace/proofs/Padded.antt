@@ -1,27 +1,23 @@
 -- Where the same numbers stand in two traces, the same is said of both: the code and each argument are read to one value in both, and so are judged alike.
-use Prim.Native.Nat.{ℕ, _≤_, _<_}
+use Prim.Native.Nat.{ℕ, _<_}
 use mathlib.Core.List.{List, [], _∷_}
 use mathlib.Core.Path.{_≡_, refl, subst}
 use native.Mathlib.Omega.{arith}
-use lib.ListN.{length, drop-of-length-le}
-use Rattle.table.specs.Refusals.{cut}
+use lib.ListN.{length}
 use Rattle.table.proofs.Laws.{by-test}
 use Rattle.number.specs.Reading.{value, readNumber}
-use Rattle.number.specs.Reading as number
-use Rattle.number.proofs.Refusals as number-laws
+use Rattle.number.proofs.Loops.{first-cut}
+use Rattle.number.proofs.Refusals.{read-moves-on}
 use Rattle.event.specs.Table.{eventOf, argumentsOf, within, codeKnown}
 use Rattle.event.specs.declared.Event.{Event}
 use Rattle.event.specs.declared.Range.{Range}
 use Rattle.trace.specs.Reading.{Told, event, end, Got, got, fault, onwards, arguments, readEvent, said}
-use Rattle.trace.specs.Laws.{SameNumbers, at-ends, in-both, Alike, events, ends, faults, ReadsAll, ended, taken, ReadAlike, PaddedTrace}
-use Rattle.trace.proofs.First.{at-end, code-bad, code-good}
+use Rattle.trace.specs.Laws.{SameNumbers, at-ends, in-both, at-fault, Alike, events, ends, faults, ReadsAll, ended, taken, ReadAlike, PaddedTrace}
+use Rattle.trace.proofs.First.{at-end, code-fault, code-bad, code-good}
 
--- at the end no number stands, and where one is read it is not the end
-past : (s : List ℕ) (place : ℕ) → length s ≤ place → readNumber s place ≡ number.refused cut
-past s place h = number-laws.cut-exactly s place .1 (rw (drop-of-length-le s h) (record { followed = tt; few = omega arith }))
-
+-- where a number is read it is not the end
 pub inside : (s : List ℕ) (place : ℕ) {v next : ℕ} → readNumber s place ≡ value v next → place < length s
-inside s place {v} {next} e = let m = number-laws.read-moves-on s place v next e in omega arith
+inside s place {v} {next} e = let m = read-moves-on s place v next e in omega arith
 
 -- ---- the arguments
 
@@ -37,11 +33,12 @@ module _ {s t : List ℕ} where
   arguments-alike : (ranges : List Range) {place at : ℕ} → SameNumbers s t place at → AlikeGot s t (arguments ranges s place) (arguments ranges t at)
   unfolding arguments
   arguments-alike [] r = both r
-  arguments-alike (range ∷ ranges) (at-ends {place} {at} h k) = rw (past s place h, past t at k) neither
+  arguments-alike (range ∷ ranges) (at-ends {place} {at} h k) = rw (first-cut s place h, first-cut t at k) neither
   arguments-alike (range ∷ ranges) (in-both {v = v} e f r) =
       by-test (within range v)
       (λ w. rw (e, f, w) (longer v (arguments-alike ranges r)))
       (λ w. rw (e, f, w) neither)
+  arguments-alike (range ∷ ranges) (at-fault h k e f) = rw (e, f) neither
 
   -- ---- the event
 
@@ -56,6 +53,7 @@ read-alike s t place at (in-both {v = v} e f r) =
     by-test (codeKnown v)
     (λ w. rw (code-good s place (inside s place e) e w, code-good t at (inside t at f) f w) (said-alike place at v (arguments-alike (argumentsOf v) r)))
     (λ w. rw (code-bad s place (inside s place e) e w, code-bad t at (inside t at f) f w) faults)
+read-alike s t place at (at-fault h k e f) = rw (code-fault s place h e, code-fault t at k f) faults
 
 -- ---- whole traces
 

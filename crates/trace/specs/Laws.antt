@@ -10,6 +10,7 @@ use denote.Ref.{RefT, now}
 use Rattle.table.specs.Refusals.{badEvent, cut, tooLarge, noRoom}
 use Rattle.table.specs.Results.{TellsOnce, Determines, DeterminesLent}
 use Rattle.number.specs.Reading.{value, readNumber}
+use Rattle.number.specs.Reading as number
 use Rattle.number.specs.Laws.{EndsEarly, TenthTooLarge}
 use Rattle.event.specs.Table.{eventOf, argumentsOf, within, codeKnown, knownOf, codes}
 use Rattle.event.specs.declared.Event.{Event}
@@ -311,12 +312,16 @@ CalledBack =
 
 -- ---- padded numbers (proofs/Padded)
 
--- the same numbers stand end to end in two traces, from a place of each to its end, each padded or not
+-- the same numbers stand in two traces, padded or not, from a place of each to its end or to one fault in both
 pub data SameNumbers (s t : List ℕ) : ℕ → ℕ → Type 0 where
   at-ends : {place at : ℕ} → length s ≤ place → length t ≤ at → SameNumbers s t place at
   in-both :
       {place at v next after : ℕ}
       → readNumber s place ≡ value v next → readNumber t at ≡ value v after → SameNumbers s t next after
+      → SameNumbers s t place at
+  at-fault :
+      {place at n : ℕ}
+      → place < length s → at < length t → readNumber s place ≡ number.refused n → readNumber t at ≡ number.refused n
       → SameNumbers s t place at
 
 -- what is said of two traces is the same but for the places, and behind an event the same numbers stand
