@@ -70,7 +70,7 @@ static size_t padded_trace(size_t length)
         next = number_read(trace, length, place).next;
         groups = next - place;
         if (groups == 0) {
-            return length;
+            return length; /* a fault, and the writer has written none */
         }
         more = random_below(NUMBER_MOST_BYTES + 1 - groups);
         memcpy(padded + at, trace + place, groups);

@@ -13,7 +13,7 @@ use Rattle.table.specs.Refusals.{tooLarge}
 use Rattle.table.proofs.Laws.{apart, by-test, by-order}
 use Rattle.number.specs.Reading.{Told, value, refused, high, mostLater, tenthByte, below, groups, readNumber}
 use Rattle.number.specs.Writing.{bytesOf}
-use Rattle.number.specs.Laws.{valueOf, group, Sevens, asBytes, GroupsRead, PaddedAlike}
+use Rattle.number.specs.Laws.{valueOf, group, Sevens, asBytes, GroupsRead, PaddedAlike, GroupsAreBytes}
 use Rattle.number.proofs.Groups.{cap, cap-two, last}
 
 -- a group by itself is its value
@@ -32,6 +32,11 @@ length-bytes g (h ∷ hs) = ap suc (length-bytes h hs)
 pub groups-of : (g : ℕ) (gs : List ℕ) → Sevens (g ∷ gs) → map group (asBytes (g ∷ gs)) ≡ g ∷ gs
 groups-of g [] s = ap (λ (n : ℕ). n ∷ []) (omega (arith, s .0))
 groups-of g (h ∷ hs) s = ap₂ (λ (n : ℕ) (l : List ℕ). n ∷ l) (omega (arith, s .0)) (groups-of h hs (s .1))
+
+pub groups-are-bytes : GroupsAreBytes
+groups-are-bytes [] s = tt
+groups-are-bytes (g ∷ []) s = (omega (arith, s .0), tt)
+groups-are-bytes (g ∷ h ∷ hs) s = (omega (arith, s .0), groups-are-bytes (h ∷ hs) (s .1))
 
 -- ---- what is said of groups, of which `later` may follow the first
 

@@ -1,16 +1,16 @@
--- The groups written for a value have that value, and no others that have it are fewer.
+-- The groups written for a value have that value. No others that have it are fewer, and as many are the same.
 use Prim.Native.Nat.{ℕ, zero, suc, _+_, _*_, _/_, _≤_, _<_}
 use mathlib.Core.List.{List, [], _∷_}
-use mathlib.Core.Path.{_≡_, sym, subst}
+use mathlib.Core.Path.{_≡_, refl, sym, ap, ap₂, subst, _∙_}
 use native.Mathlib.Omega.{arith}
 use borrow.Author.Tests.{le-ltb}
 use lib.ListN.{length}
 use Rattle.table.proofs.Laws.{by-order}
 use Rattle.number.specs.Reading.{high, mostLater}
 use Rattle.number.specs.Writing.{bytesOf, numberBytes}
-use Rattle.number.specs.Laws.{valueOf, Sevens, WritesValue, Fewest}
+use Rattle.number.specs.Laws.{valueOf, Sevens, asBytes, WritesValue, Fewest, OneShortest}
 use Rattle.number.proofs.Groups.{last}
-use Rattle.number.proofs.Padded.{groups-of, spelt}
+use Rattle.number.proofs.Padded.{length-bytes, groups-of, spelt}
 
 pub writes-value : WritesValue
 unfolding numberBytes
@@ -44,3 +44,20 @@ fewest-from (suc later) g (h ∷ hs) s =
 pub fewest : Fewest
 unfolding numberBytes
 fewest g gs s = fewest-from mostLater g gs s
+
+-- ---- as many groups that have one value are the same: their lowest are, and so on above them
+
+same-groups : (gs hs : List ℕ) → Sevens gs → Sevens hs → length gs ≡ length hs → valueOf gs ≡ valueOf hs → gs ≡ hs
+same-groups [] [] s t l e = refl
+same-groups [] (h ∷ hs) s t l e = absurd (omega arith)
+same-groups (g ∷ gs) [] s t l e = absurd (omega arith)
+same-groups (g ∷ gs) (h ∷ hs) s t l e =
+    ap₂ (λ (n : ℕ) (ns : List ℕ). n ∷ ns) (omega (arith, s .0, t .0))
+    (same-groups gs hs (s .1) (t .1) (omega arith) (omega (arith, s .0, t .0)))
+
+pub one-shortest : OneShortest
+unfolding numberBytes
+one-shortest g gs s h e =
+    let f = spelt mostLater (valueOf (g ∷ gs)) h in
+    let long = sym (length-bytes (f .first) (f .others)) ∙ ap length (sym (f .bytes)) ∙ e in
+    f .bytes ∙ ap asBytes (same-groups (f .first ∷ f .others) (g ∷ gs) (f .sevens) s long (f .says))

@@ -57,6 +57,12 @@ Sevens (g ∷ gs) = (g < high) × Sevens gs
 abbrev pub group : ℕ → ℕ
 group b = b % high
 
+-- groups as bytes: each but the last says that another follows
+abbrev pub asBytes : List ℕ → List ℕ
+asBytes [] = []
+asBytes (g ∷ []) = g ∷ []
+asBytes (g ∷ h ∷ gs) = (high + g) ∷ asBytes (h ∷ gs)
+
 -- the groups that are written for a value have that value
 abbrev pub WritesValue : Type 0
 WritesValue = (v : ℕ) → v < 2 ^ 64 → valueOf (map group (numberBytes v)) ≡ v
@@ -65,13 +71,13 @@ WritesValue = (v : ℕ) → v < 2 ^ 64 → valueOf (map group (numberBytes v)) �
 abbrev pub Fewest : Type 0
 Fewest = (g : ℕ) (gs : List ℕ) → Sevens (g ∷ gs) → length (numberBytes (valueOf (g ∷ gs))) ≤ length (g ∷ gs)
 
--- ---- whatever groups stand there (proofs/Padded, proofs/Refusals)
+-- and where they are as few they are those: the shortest form is one
+abbrev pub OneShortest : Type 0
+OneShortest =
+    (g : ℕ) (gs : List ℕ) → Sevens (g ∷ gs) → valueOf (g ∷ gs) < 2 ^ 64
+    → length (numberBytes (valueOf (g ∷ gs))) ≡ length (g ∷ gs) → numberBytes (valueOf (g ∷ gs)) ≡ asBytes (g ∷ gs)
 
--- groups as bytes: each but the last says that another follows
-abbrev pub asBytes : List ℕ → List ℕ
-asBytes [] = []
-asBytes (g ∷ []) = g ∷ []
-asBytes (g ∷ h ∷ gs) = (high + g) ∷ asBytes (h ∷ gs)
+-- ---- whatever groups stand there (proofs/Padded, proofs/Refusals)
 
 -- one to ten groups of seven bits stand at a place, zero groups at the end or none, whatever follows them
 pub record GroupsStand (s : List ℕ) (place : ℕ) (gs : List ℕ) : Type 0 where
@@ -99,6 +105,10 @@ PaddedAlike =
 abbrev pub Bytes : List ℕ → Type 0
 Bytes [] = Unit
 Bytes (b ∷ bs) = (b < 256) × Bytes bs
+
+-- groups of seven bits, as bytes, are bytes
+abbrev pub GroupsAreBytes : Type 0
+GroupsAreBytes = (gs : List ℕ) → Sevens gs → Bytes (asBytes gs)
 
 -- the value v, under 2^64, of groups that stand at a place, before the place `next`
 pub record IsValue (s : List ℕ) (place v next : ℕ) : Type 0 where

@@ -131,18 +131,16 @@ NoOneNorTwo =
 
 -- ---- padded numbers (proofs/Padded)
 
--- how a run stopped, the place of a fault aside
-abbrev pub placeAside : Halt → Halt
-placeAside atEnd = atEnd
-placeAside atBudget = atBudget
-placeAside (atFault n place) = atFault n 0
-placeAside (refused n) = refused n
+-- two ways to stop are the same but for the place of a fault
+pub data StopAlike : Halt → Halt → Type 0 where
+  same : {halt : Halt} → StopAlike halt halt
+  elsewhere : {n place at : ℕ} → StopAlike (atFault n place) (atFault n at)
 
 -- runs over two traces give the same, the place of a fault aside
 pub record RunsAlike (p : Phy) (s t : List ℕ) (budget : ℕ) (buffer : List ℕ) : Type 0 where
   pub count : runOf p s budget buffer .count ≡ runOf p t budget buffer .count
   pub state : runOf p s budget buffer .state ≡ runOf p t budget buffer .state
-  pub halt : placeAside (runOf p s budget buffer .halt) ≡ placeAside (runOf p t budget buffer .halt)
+  pub halt : StopAlike (runOf p s budget buffer .halt) (runOf p t budget buffer .halt)
   pub bytes : bufferAfter p s budget buffer ≡ bufferAfter p t budget buffer
 
 -- so it is with traces of the same numbers, padded or not
