@@ -1,8 +1,8 @@
 -- What is written is read back: it is groups of the value, which are read wherever they stand.
-use Prim.Native.Nat.{ℕ, _+_, _^_, _<_}
+use Prim.Native.Nat.{ℕ, _+_, _^_, _≤_, _<_}
 use mathlib.Core.Bool.{true}
 use mathlib.Core.List.{List, _∷_, _++_}
-use mathlib.Core.Path.{_≡_, sym, ap, _∙_}
+use mathlib.Core.Path.{_≡_, ap, _∙_}
 use native.Mathlib.Omega.{arith}
 use borrow.Author.Tests.{lt-ltb, leb-true}
 use lib.ListN.{length, drop}
@@ -21,28 +21,42 @@ wrote-is e = cc
 pub refused-not-wrote : {m n : ℕ} → writing.refused m ≡ wrote n → ⊥
 refused-not-wrote e = apart cc
 
--- with room, the groups of v stand in the buffer
-stand : (v : ℕ) (buffer : List ℕ) (place : ℕ) → fits v buffer place ≡ true → (g : Spelt mostLater v)
-    → GroupsStand (sets buffer place (numberBytes v)) place (g .first ∷ g .others)
-unfolding numberBytes
-stand v buffer place t g =
-    record {
-      some = omega arith;
-      few = omega (arith, g .few);
-      sevens = g .sevens;
-      rest = drop (place + length (numberBytes v)) buffer;
-      whole =
-          stored-from buffer (numberBytes v) place (leb-true (place + length (numberBytes v)) (length buffer) t)
-          ∙ ap (λ (bytes : List ℕ). bytes ++ drop (place + length (numberBytes v)) buffer) (g .bytes);
-    }
+-- ---- the bytes of a value are groups that have it
+
+module _ (v : ℕ) (h : v < 2 ^ 64) where
+  abbrev written : Spelt mostLater v
+  written = spelt mostLater v h
+
+  pub as-many : length (numberBytes v) ≡ length (written .first ∷ written .others)
+  unfolding numberBytes
+  as-many = ap length (written .bytes) ∙ length-bytes (written .first) (written .others)
+
+  -- one at least, and ten at most
+  pub sized : (0 < length (numberBytes v)) × (length (numberBytes v) ≤ 10)
+  sized = (omega (arith, as-many), omega (arith, as-many, written .few))
+
+  -- so they are read to it wherever they stand
+  pub read-wherever : (s : List ℕ) (place : ℕ) (rest : List ℕ) → drop place s ≡ numberBytes v ++ rest → readNumber s place ≡ value v (place + length (numberBytes v))
+  unfolding numberBytes
+  read-wherever s place rest e =
+      let stand : GroupsStand s place (written .first ∷ written .others) =
+      record {
+        some = omega arith;
+        few = omega (arith, written .few);
+        sevens = written .sevens;
+        rest = rest;
+        whole = e ∙ ap (λ (bytes : List ℕ). bytes ++ rest) (written .bytes);
+      } in
+      rw as-many (rw (written .says, lt-ltb v (2 ^ 64) h) at (groups-read s place (written .first ∷ written .others) stand))
+
+-- ---- in a buffer with room for them
 
 with-room : (v : ℕ) (buffer : List ℕ) (place n : ℕ) → v < 2 ^ 64 → fits v buffer place ≡ true → writeNumber v buffer place ≡ wrote n
     → readNumber (bufferAfter v buffer place) place ≡ value v (place + n)
-unfolding numberBytes
 with-room v buffer place n h t e =
-    let g = spelt mostLater v h in
-    let long : length (g .first ∷ g .others) ≡ n = sym (length-bytes (g .first) (g .others)) ∙ ap length (sym (g .bytes)) ∙ wrote-is (rw t at e) in
-    rw t (rw (g .says, long, lt-ltb v (2 ^ 64) h) at (groups-read _ place (g .first ∷ g .others) (stand v buffer place t g)))
+    rw (t, ← wrote-is (rw t at e))
+    (read-wherever v h (sets buffer place (numberBytes v)) place (drop (place + length (numberBytes v)) buffer)
+    (stored-from buffer (numberBytes v) place (leb-true (place + length (numberBytes v)) (length buffer) t)))
 
 pub read-back : ReadBack
 read-back v buffer place n h e =

@@ -10,7 +10,8 @@ use Rattle.number.specs.Reading.{high, mostLater}
 use Rattle.number.specs.Writing.{bytesOf, numberBytes}
 use Rattle.number.specs.Laws.{valueOf, Sevens, asBytes, WritesValue, Fewest, OneShortest}
 use Rattle.number.proofs.Groups.{last}
-use Rattle.number.proofs.Padded.{length-bytes, groups-of, spelt}
+use Rattle.number.proofs.Padded.{groups-of, spelt}
+use Rattle.number.proofs.RoundTrip.{as-many}
 
 pub writes-value : WritesValue
 unfolding numberBytes
@@ -59,5 +60,4 @@ pub one-shortest : OneShortest
 unfolding numberBytes
 one-shortest g gs s h e =
     let f = spelt mostLater (valueOf (g ∷ gs)) h in
-    let long = sym (length-bytes (f .first) (f .others)) ∙ ap length (sym (f .bytes)) ∙ e in
-    f .bytes ∙ ap asBytes (same-groups (f .first ∷ f .others) (g ∷ gs) (f .sevens) s long (f .says))
+    f .bytes ∙ ap asBytes (same-groups (f .first ∷ f .others) (g ∷ gs) (f .sevens) s (sym (as-many (valueOf (g ∷ gs)) h) ∙ e) (f .says))

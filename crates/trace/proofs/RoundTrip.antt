@@ -11,6 +11,7 @@ use lib.Seq.{sets, sets-eq, take-at, length-take-le}
 use Rattle.table.proofs.Laws.{apart}
 use Rattle.table.proofs.Stores.{stored-from}
 use Rattle.number.specs.Writing.{numberBytes}
+use Rattle.number.proofs.RoundTrip.{sized, read-wherever}
 use Rattle.event.specs.Table.{eventOf, argumentsOf, argumentCount, knownOf}
 use Rattle.event.specs.declared.Event.{Event}
 use Rattle.event.specs.declared.Range.{Range}
@@ -18,7 +19,7 @@ use Rattle.trace.specs.Reading.{event, end, got, arguments, readEvent}
 use Rattle.trace.specs.Writing.{wrote, bytesOf, eventBytes, traceBytes, writeEvent, bufferAfter}
 use Rattle.trace.specs.Laws.{ReadBack, OthersKept, ReadsAll, ended, taken, AllKnown, TraceBack, ReadsOnce}
 use Rattle.trace.proofs.Known.{AllWithin, sixOf, is-known, numbers-small, lacks, small, at-most-six}
-use Rattle.trace.proofs.Numbers.{behind, sized, inside, stands}
+use Rattle.trace.proofs.Numbers.{behind, inside}
 use Rattle.trace.proofs.ReadLoop.{kept, same-event}
 use Rattle.trace.proofs.First.{at-end, code-good}
 use Rattle.trace.proofs.Refusals.{refused-not-wrote, by-room}
@@ -35,7 +36,7 @@ arguments-back (range ∷ ranges) (v ∷ vs) w small l s place rest e =
     let later : List ℕ = bytesOf (take (length ranges) vs) in
     let here : drop place s ≡ numberBytes v ++ (later ++ rest) = e ∙ append-assoc (numberBytes v) later rest in
     rw (
-      stands v (small 0) s place (later ++ rest) here,
+      read-wherever v (small 0) s place (later ++ rest) here,
       w 0,
       arguments-back ranges vs (λ k. w (suc k)) (λ k. small (suc k)) (omega arith) s (place + length (numberBytes v)) rest (behind s place (numberBytes v) (later ++ rest) here),
     )
@@ -66,6 +67,9 @@ module _ (e : Event) (k : knownOf e ≡ true) where
     abbrev after : ℕ
     after = place + length (numberBytes (e .code))
 
+    some : 0 < length (numberBytes (e .code))
+    some = sized (e .code) (numbers-small e k 0) .0
+
     arguments-read : arguments (argumentsOf (e .code)) s after ≡ got (take count (sixOf e)) (after + length later)
     arguments-read =
         arguments-back (argumentsOf (e .code)) (sixOf e) (is-known e k .ranged) (small (e .code) (sixOf e) (is-known e k .ranged)) (at-most-six (e .code)) s after rest
@@ -76,8 +80,8 @@ module _ (e : Event) (k : knownOf e ≡ true) where
 
     event-back : readEvent s place ≡ event e (place + length (eventBytes e))
     event-back =
-        code-good s place (omega (arith, inside (e .code) (numbers-small e k 0) s place (later ++ rest) here, sized (e .code) (numbers-small e k 0)))
-        (stands (e .code) (numbers-small e k 0) s place (later ++ rest) here) (is-known e k .coded)
+        code-good s place (omega (arith, inside s place (numberBytes (e .code)) (later ++ rest) here some, some))
+        (read-wherever (e .code) (numbers-small e k 0) s place (later ++ rest) here) (is-known e k .coded)
         ∙ rw arguments-read (ap₂ event made last)
 
 -- ---- in a buffer

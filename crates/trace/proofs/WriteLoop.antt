@@ -13,6 +13,7 @@ use Rattle.number.specs.Writing.{numberBytes}
 use Rattle.number.specs.Writing as number
 use Rattle.number.specs.Contracts.{WritesNumber}
 use Rattle.number.specs.declared.NumberWritten.the-variants as number-written
+use Rattle.number.proofs.RoundTrip.{sized}
 use Rattle.number.proofs.Refusals.{no-room-exactly}
 use Rattle.event.specs.Table.{argumentCount, knownOf}
 use Rattle.event.specs.declared.Event.{Event}
@@ -20,7 +21,6 @@ use Rattle.trace.specs.Writing.{wrote, bytesOf, allNumbers, eventBytes, 
 use Rattle.trace.specs.Contracts.{WritesEvent}
 use Rattle.trace.specs.declared.EventWritten.the-variants.{Length, BadEvent, NoRoom}
 use Rattle.trace.proofs.Known.{six-arguments, numbers-small}
-use Rattle.trace.proofs.Numbers.{sized}
 
 -- ---- the numbers that the writer goes through: as many as the event has, each of at most 64 bits
 
