@@ -15,7 +15,8 @@
  *     and is not null, also where the length is 0;
  *   - the trace and the buffer of a run do not overlap.
  *
- * No function keeps a pointer, allocates, or has a state of its own, so any thread may call any of them.
+ * No function keeps a pointer, allocates, or has a state of its own, so any thread may call any of them. Those that
+ * write an event or a number need at most 256 bytes of stack, their arguments among them.
  */
 #ifndef LOURAVELA_H
 #define LOURAVELA_H
@@ -24,7 +25,7 @@
 #include <stdint.h>
 
 /* The version of this header and of the archives that are built beside it. */
-#define LOURAVELA_VERSION "4.3.0"
+#define LOURAVELA_VERSION "4.3.1"
 
 #ifdef __cplusplus
 extern "C" {
