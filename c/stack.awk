@@ -83,7 +83,7 @@ function shifted(place, by,    part) {
     return part[1] SUBSEP part[2] SUBSEP (part[3] + by)
 }
 
-# Where a relocation points, by a name alone or as name+0x10 or name-0x10; "" where no archive has the name, or two have.
+# Where a relocation points, as name, name+0x10 or name-0x10; "" where no archive has the name, or more than one.
 function pointed(object, text, by) {
     if (match(text, /[-+]0x[0-9a-f]+$/)) {
         by += hex(substr(text, RSTART))
@@ -244,7 +244,7 @@ function follow(i, todo,    before) {
     if (op[i] ~ /^call/) return called(i, todo)
     if (op[i] ~ /^(j|loop)/) return jumped(i, todo)
     if (op[i] ~ /^(ud2|hlt|int3)$/) return depth
-    if (op[i] ~ /^retq?$/ && args[i] == "") return depth == WORD ? depth : failed(i, "it returns from a depth of " depth)
+    if (op[i] ~ /^retq?$/ && args[i] == "") return depth == WORD ? depth : failed(i, "it returns from depth " depth)
     before = depth
     moves(i)
     goOn(todo, i)
