@@ -14,7 +14,7 @@ use Rattle.event.specs.Table.{openOf, openKnown, knownOf, argumentsKnown, argum
 use Rattle.event.specs.declared.Event.{Event}
 use Rattle.event.specs.declared.Open.{Open}
 use Rattle.phy.specs.Names.{answerOpenTimeout, fullTimer}
-use Rattle.phy.specs.Shapes.{freshPhy, requesting, quiet, reports}
+use Rattle.phy.specs.Shapes.{freshPhy, requesting, givenUp, quiet, reports}
 use Rattle.phy.specs.State.{validOf, validRequest, validInbound}
 use Rattle.phy.specs.Moves.{onAip, toIdle, onTxOpen, openByLink}
 use Rattle.phy.specs.Ticks.{longer, aged, tickRequesting, tickBreaking, onTickAged, onTick}
@@ -79,10 +79,10 @@ abbrev none : Settings
 none = record { accept = off }
 
 abbrev asking : ℕ → Open → Phy
-asking t o = requesting none 1 2 t o 0
+asking t o = requesting none 1 2 t o
 
 abbrev failing : ℕ → Open → Phy
-failing t o = requesting none 5 4 t o answerOpenTimeout
+failing t o = givenUp none 5 t o answerOpenTimeout
 
 abbrev Known : Open → Type 0
 Known o = openKnown o ≡ true

@@ -15,8 +15,8 @@ use Rattle.phy.specs.Names.{answerRate, answerProtocol, answerStpBusy, a
 use Rattle.phy.specs.Names.{answerBreakReceived, answerPortLayerRequest, answerTerminated, noticeOpened}
 use Rattle.phy.specs.Names.{noticeClosedNormal, noticeBreakRequested, noticeBreakReceived}
 use Rattle.phy.specs.Names.{noticeTransitionToIdle, noticeReset, sentOpen, sentClose, sentBreak, fullTimer}
-use Rattle.phy.specs.Shapes.{requesting, idle, selected, connected, freshPhy, withTimer, withSettings, reports}
-use Rattle.phy.specs.Shapes.{answers, quiet, refused}
+use Rattle.phy.specs.Shapes.{requesting, givenUp, idle, selected, connected, freshPhy, withTimer, withSettings}
+use Rattle.phy.specs.Shapes.{reports, answers, quiet, refused}
 use Rattle.phy.specs.declared.Phy.{Phy}
 use Rattle.phy.specs.declared.Stepped.{Stepped}
 
@@ -34,9 +34,9 @@ toIdle p sent = rows (p .port) (idleRows p sent) (reports (idle (p .settings)) 0
 -- ---- 1, Tx Open: P1 to P2; from L0 an OPEN is sent, with L2 or L6 the request waits
 abbrev pub txOpenRows : Phy → Open → List (Row Stepped)
 txOpenRows p o =
-    (L0 ⇒ reports (requesting (p .settings) L1 P2 fullTimer o 0) 0 sentOpen)
+    (L0 ⇒ reports (requesting (p .settings) L1 P2 fullTimer o) 0 sentOpen)
     ∷ (L2 ⇒ reports (selected (p .settings) P2 o (p .inboundSource) (p .inboundProtocol)) 0 0)
-    ∷ (L6 ⇒ reports (requesting (p .settings) L6 P2 0 o 0) 0 0)
+    ∷ (L6 ⇒ reports (requesting (p .settings) L6 P2 0 o) 0 0)
     ∷ []
 
 unfoldable pub openByLink : Phy → Open → Stepped
@@ -48,7 +48,7 @@ onTxOpen p e = pick (eqb (p .port) P1) (openByLink p (openOf e)) (refused p busy
 -- ---- 2, Cancel Open: with L1 a BREAK is sent; with L2 or L6 it is accepted and nothing changes
 abbrev pub cancelRows : Phy → List (Row Stepped)
 cancelRows p =
-    (L1 ⇒ reports (requesting (p .settings) L5 P4 fullTimer (p .request) answerPortLayerRequest) 0 sentBreak) ∷ []
+    (L1 ⇒ reports (givenUp (p .settings) L5 fullTimer (p .request) answerPortLayerRequest) 0 sentBreak) ∷ []
 
 unfoldable pub onCancelOpen : Phy → Stepped
 onCancelOpen p = pick (eqb (p .port) P2) (rows (p .link) (cancelRows p) (quiet p)) (refused p nothingPending)
@@ -130,8 +130,8 @@ onAip p = rows (p .link) (aipRows p) (quiet p)
 -- ---- 11, BREAK: it is answered by a BREAK, or ends our own
 abbrev pub breakRows : Phy → List (Row Stepped)
 breakRows p =
-    (L1 ⇒ reports (requesting (p .settings) L6 P4 0 (p .request) answerBreakReceived) 0 sentBreak)
-    ∷ (L2 ⇒ reports (requesting (p .settings) L6 (p .port) 0 (p .request) 0) 0 sentBreak)
+    (L1 ⇒ reports (givenUp (p .settings) L6 0 (p .request) answerBreakReceived) 0 sentBreak)
+    ∷ (L2 ⇒ reports (requesting (p .settings) L6 (p .port) 0 (p .request)) 0 sentBreak)
     ∷ (L3 ⇒ reports (connected (p .settings) L6 0 (p .connectionProtocol) off) noticeBreakReceived sentBreak)
     ∷ (L4 ⇒ reports (connected (p .settings) L6 0 (p .connectionProtocol) off) noticeBreakReceived sentBreak)
     ∷ (L5 ⇒ toIdle p 0)

@@ -2,7 +2,7 @@
 use Prim.Native.Nat.{ℕ}
 use Rattle.table.specs.Flags.{off}
 use Rattle.event.specs.declared.Open.{Open}
-use Rattle.phy.specs.Names.{L0, L2, P1, P3}
+use Rattle.phy.specs.Names.{L0, L2, P1, P3, P4}
 use Rattle.phy.specs.declared.Settings.{Settings}
 use Rattle.phy.specs.declared.Phy.{Phy}
 use Rattle.phy.specs.declared.Stepped.{Stepped}
@@ -13,12 +13,28 @@ use Rattle.phy.specs.declared.Stepped.{Stepped}
 abbrev pub noOpen : Open
 noOpen = record { destination = 0; protocol = 0; rate = 0; tag = 0; blockedCount = 0; wait = 0 }
 
--- a request, or none, with no connection and no OPEN from the far end
-abbrev pub requesting : (settings : Settings) (link port timer : ℕ) (request : Open) (reason : ℕ) → Phy
-requesting settings link port timer request reason =
+-- a request that waits, or none, with no connection and no OPEN from the far end
+abbrev pub requesting : (settings : Settings) (link port timer : ℕ) (request : Open) → Phy
+requesting settings link port timer request =
     record {
       link = link;
       port = port;
+      timer = timer;
+      request = request;
+      reason = 0;
+      inboundSource = 0;
+      inboundProtocol = 0;
+      connectionProtocol = 0;
+      farClosed = off;
+      settings = settings;
+    }
+
+-- a request that is given up: its wait stands, and its answer waits for L0
+abbrev pub givenUp : (settings : Settings) (link timer : ℕ) (request : Open) (reason : ℕ) → Phy
+givenUp settings link timer request reason =
+    record {
+      link = link;
+      port = P4;
       timer = timer;
       request = request;
       reason = reason;
@@ -31,7 +47,7 @@ requesting settings link port timer request reason =
 
 -- neither request nor connection
 abbrev pub idle : Settings → Phy
-idle settings = requesting settings L0 P1 0 noOpen 0
+idle settings = requesting settings L0 P1 0 noOpen
 
 -- an OPEN from the far end, with a request that waits or none
 abbrev pub selected : (settings : Settings) (port : ℕ) (request : Open) (source protocol : ℕ) → Phy

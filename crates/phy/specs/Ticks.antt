@@ -6,10 +6,10 @@ use Rattle.table.specs.Choice.{pick, Row, _⇒_, rows}
 use Rattle.table.specs.Flags.{off, isOn}
 use Rattle.event.specs.Names.{mostWait}
 use Rattle.event.specs.declared.Open.{Open}
-use Rattle.phy.specs.Names.{L1, L2, L3, L4, L5, L6, P2, P4, answerOpenedByDestination, answerOpenedByOther}
+use Rattle.phy.specs.Names.{L1, L2, L3, L4, L5, L6, P2, answerOpenedByDestination, answerOpenedByOther}
 use Rattle.phy.specs.Names.{answerOpenTimeout, noticeOpened, noticeCloseTimeout, sentOpenAccept, sentOpenReject}
 use Rattle.phy.specs.Names.{sentBreak, fullTimer}
-use Rattle.phy.specs.Shapes.{requesting, connected, withTimer, withRequest, reports, answers, quiet}
+use Rattle.phy.specs.Shapes.{givenUp, connected, withTimer, withRequest, reports, answers, quiet}
 use Rattle.phy.specs.Moves.{toIdle}
 use Rattle.phy.specs.declared.Phy.{Phy}
 use Rattle.phy.specs.declared.Stepped.{Stepped}
@@ -37,7 +37,7 @@ counts p over = pick (leb (p .timer) 1) over (quiet (withTimer p (p .timer - 1))
 -- L1: the Open has failed, and its answer waits for the link to be idle
 unfoldable pub tickRequesting : Phy → Stepped
 tickRequesting p =
-    counts p (reports (requesting (p .settings) L5 P4 fullTimer (p .request) answerOpenTimeout) 0 sentBreak)
+    counts p (reports (givenUp (p .settings) L5 fullTimer (p .request) answerOpenTimeout) 0 sentBreak)
 
 -- L4: no CLOSE came
 unfoldable pub tickClosing : Phy → Stepped

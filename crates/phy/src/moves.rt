@@ -35,13 +35,13 @@ fn open_by_link(p: Phy, o: Open) -> Stepped
     let link = p.link;
     let settings = p.settings;
     match link {
-        L0 => reports(requesting(settings, L1, P2, FULL_TIMER, o, 0), 0, SENT_OPEN),
+        L0 => reports(requesting(settings, L1, P2, FULL_TIMER, o), 0, SENT_OPEN),
         L2 => reports(
             selected(settings, P2, o, p.inboundSource, p.inboundProtocol),
             0,
             0,
         ),
-        L6 => reports(requesting(settings, L6, P2, 0, o, 0), 0, 0),
+        L6 => reports(requesting(settings, L6, P2, 0, o), 0, 0),
         _ => quiet(p),
     }
 }
@@ -65,14 +65,7 @@ pub(crate) fn on_cancel_open(p: Phy) -> Stepped
     if p.port == P2 {
         return match link {
             L1 => reports(
-                requesting(
-                    settings,
-                    L5,
-                    P4,
-                    FULL_TIMER,
-                    request,
-                    ANSWER_PORT_LAYER_REQUEST,
-                ),
+                given_up(settings, L5, FULL_TIMER, request, ANSWER_PORT_LAYER_REQUEST),
                 0,
                 SENT_BREAK,
             ),
@@ -204,15 +197,11 @@ pub(crate) fn on_break(p: Phy) -> Stepped
     let request = p.request;
     match link {
         L1 => reports(
-            requesting(settings, L6, P4, 0, request, ANSWER_BREAK_RECEIVED),
+            given_up(settings, L6, 0, request, ANSWER_BREAK_RECEIVED),
             0,
             SENT_BREAK,
         ),
-        L2 => reports(
-            requesting(settings, L6, p.port, 0, request, 0),
-            0,
-            SENT_BREAK,
-        ),
+        L2 => reports(requesting(settings, L6, p.port, 0, request), 0, SENT_BREAK),
         L3 => reports(
             connected(settings, L6, 0, p.connectionProtocol, OFF),
             NOTICE_BREAK_RECEIVED,

@@ -1,7 +1,7 @@
 // The words in which moves are written: shapes of a phy, where what is in use is given and all else is
 // zero, and what a step reports with it.
 ghost use mathlib.Core.Path.{_≡_};
-ghost use Rattle.phy.specs.Shapes.{requesting as Shapes·requesting, idle as Shapes·idle, selected as Shapes·selected, connected as Shapes·connected, withTimer, withRequest, withSettings, reports as Shapes·reports, answers as Shapes·answers, quiet as Shapes·quiet, refused as Shapes·refused};
+ghost use Rattle.phy.specs.Shapes.{requesting as Shapes·requesting, givenUp, idle as Shapes·idle, selected as Shapes·selected, connected as Shapes·connected, withTimer, withRequest, withSettings, reports as Shapes·reports, answers as Shapes·answers, quiet as Shapes·quiet, refused as Shapes·refused};
 ghost use Rattle.phy.specs.Contracts.{StartsFresh};
 use crate::Phy;
 use crate::Settings;
@@ -10,6 +10,7 @@ use crate::names::L0;
 use crate::names::L2;
 use crate::names::P1;
 use crate::names::P3;
+use crate::names::P4;
 use event::Open;
 use table::OFF;
 
@@ -22,21 +23,27 @@ const NO_OPEN: Open = Open {
     wait: 0,
 };
 
-// A request, or none, with no connection and no OPEN from the far end.
-pub(crate) fn requesting(
-    settings: Settings,
-    link: u64,
-    port: u64,
-    timer: u64,
-    request: Open,
-    reason: u64,
-) -> Phy
-    ensures { λ r. ⌜ r ≡ Shapes·requesting settings link port timer request reason ⌝ }
+// A request that waits, or none, with no connection and no OPEN from the far end.
+pub(crate) fn requesting(settings: Settings, link: u64, port: u64, timer: u64, request: Open) -> Phy
+    ensures { λ r. ⌜ r ≡ Shapes·requesting settings link port timer request ⌝ }
 {
     let mut next = FRESH;
     next.settings = settings;
     next.link = link;
     next.port = port;
+    next.timer = timer;
+    next.request = request;
+    next
+}
+
+// A request that is given up: its wait stands, and its answer waits for the link to be idle.
+pub(crate) fn given_up(settings: Settings, link: u64, timer: u64, request: Open, reason: u64) -> Phy
+    ensures { λ r. ⌜ r ≡ givenUp settings link timer request reason ⌝ }
+{
+    let mut next = FRESH;
+    next.settings = settings;
+    next.link = link;
+    next.port = P4;
     next.timer = timer;
     next.request = request;
     next.reason = reason;

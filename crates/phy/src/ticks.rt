@@ -48,7 +48,7 @@ fn tick_requesting(p: Phy) -> Stepped
     let request = p.request;
     if p.timer <= 1 {
         return reports(
-            requesting(settings, L5, P4, FULL_TIMER, request, ANSWER_OPEN_TIMEOUT),
+            given_up(settings, L5, FULL_TIMER, request, ANSWER_OPEN_TIMEOUT),
             0,
             SENT_BREAK,
         );

@@ -8,7 +8,7 @@ use Rattle.event.specs.Names.{STP, mostAddress}
 use Rattle.event.specs.Table.{openKnown}
 use Rattle.event.specs.declared.Open.{Open}
 use Rattle.phy.specs.Names.{fullTimer, answerOpenTimeout, answerBreakReceived, answerPortLayerRequest}
-use Rattle.phy.specs.Shapes.{noOpen, idle, requesting, selected, connected, withTimer}
+use Rattle.phy.specs.Shapes.{noOpen, idle, requesting, givenUp, selected, connected, withTimer}
 use Rattle.phy.specs.State.{validPair, validTimer, validRequest, validInbound, validSettings, validOf}
 use Rattle.phy.specs.declared.Settings.{Settings}
 use Rattle.phy_laws.proofs.Shapes.{Fields, phyOf, Facts}
@@ -20,23 +20,23 @@ module _ (s : Settings) (set : validSettings s ≡ true) where
   unfolding validOf validRequest validInbound
   idle-valid = rw set
 
-  pub requesting-valid : (t : ℕ) (o : Open) → timed t ≡ true → openKnown o ≡ true → validOf (requesting s 1 2 t o 0) ≡ true
+  pub requesting-valid : (t : ℕ) (o : Open) → timed t ≡ true → openKnown o ≡ true → validOf (requesting s 1 2 t o) ≡ true
   unfolding validOf validRequest validInbound
   requesting-valid t o ht ho = rw (ht, ho, set)
 
-  pub waiting-valid : (o : Open) → openKnown o ≡ true → validOf (requesting s 6 2 0 o 0) ≡ true
+  pub waiting-valid : (o : Open) → openKnown o ≡ true → validOf (requesting s 6 2 0 o) ≡ true
   unfolding validOf validRequest validInbound
   waiting-valid o ho = rw (ho, set)
 
-  pub breaking-valid : validOf (requesting s 6 1 0 noOpen 0) ≡ true
+  pub breaking-valid : validOf (requesting s 6 1 0 noOpen) ≡ true
   unfolding validOf validRequest validInbound
   breaking-valid = rw set
 
-  pub broken-valid : (o : Open) → openKnown o ≡ true → validOf (requesting s 6 4 0 o answerBreakReceived) ≡ true
+  pub broken-valid : (o : Open) → openKnown o ≡ true → validOf (givenUp s 6 0 o answerBreakReceived) ≡ true
   unfolding validOf validRequest validInbound
   broken-valid o ho = rw (ho, set)
 
-  pub giving-up-valid : (o : Open) (reason : ℕ) → openKnown o ≡ true → eqb reason answerOpenTimeout || eqb reason answerPortLayerRequest ≡ true → validOf (requesting s 5 4 fullTimer o reason) ≡ true
+  pub giving-up-valid : (o : Open) (reason : ℕ) → openKnown o ≡ true → eqb reason answerOpenTimeout || eqb reason answerPortLayerRequest ≡ true → validOf (givenUp s 5 fullTimer o reason) ≡ true
   unfolding validOf validRequest validInbound
   giving-up-valid o reason ho hr = rw (ho, hr, set)
 

@@ -12,8 +12,8 @@ on-break-spec =
     (tie.spec
     (λ _ _. tt) (λ _ _. tt) (λ _ _. tt) (λ _ _. tt) (λ _ _. tt) (λ _ _. tt) (λ _ _. tt) (λ _ _. tt) (λ _ _. tt)
     (λ _ _. tt)
-    (λ c. simp (c .reports .ensures, c .before .requesting .ensures, c .before .before .match .keys1))
-    (λ c. simp (c .reports2 .ensures, c .before .requesting2 .ensures, c .before .before .match .keys2))
+    (λ c. simp (c .reports .ensures, c .before .given-up .ensures, c .before .before .match .keys1))
+    (λ c. simp (c .reports2 .ensures, c .before .requesting .ensures, c .before .before .match .keys2))
     (λ c. simp (c .reports3 .ensures, c .before .connected .ensures, c .before .before .match .keys3))
     (λ c. simp (c .reports4 .ensures, c .before .connected2 .ensures, c .before .before .match .keys4))
     (λ c. simp (c .to-idle .ensures, c .before .match .keys5))

@@ -12,7 +12,7 @@ on-cancel-open-spec =
     tie.close
     (tie.spec
     (λ _ _. tt) (λ _ _. tt) (λ _ _. tt)
-    (λ c. simp (c .reports .ensures, c .before .requesting .ensures, c .before .before .match .keys1, eq-eqb _ _ (c .before .before .before .if1 .taken)))
+    (λ c. simp (c .reports .ensures, c .before .given-up .ensures, c .before .before .match .keys1, eq-eqb _ _ (c .before .before .before .if1 .taken)))
     (λ c. simp (c .quiet .ensures, eq-eqb _ _ (c .before .before .if1 .taken)) (sym (unlisted _ (cancelRows (c .before .before .before .before .before .before .args .p)) _ (c .before .match .rest))))
     (λ _ _. tt)
     (λ c. simp (c .refused .ensures, ne-eqb _ _ (c .before .if1 .left))))
