@@ -182,6 +182,16 @@ static bool request_fits(const struct phy *phy)
     return request_in_range(&phy->request);
 }
 
+static bool part_fits(const struct phy *phy)
+{
+    uint64_t wait = phy->request.wait;
+
+    if (phy->port != PORT_REQ_WAIT || wait < PHY_SLOW_WAIT || wait == PHY_MOST_WAIT) {
+        return phy->part == 0;
+    }
+    return phy->part < PHY_MILLISECOND;
+}
+
 static bool reason_fits(const struct phy *phy)
 {
     if (phy->port != PORT_WAIT_FOR_CLOSE) {
@@ -227,6 +237,7 @@ bool phy_is_valid(const struct phy *phy)
     return pair_fits(phy)
         && timer_fits(phy)
         && request_fits(phy)
+        && part_fits(phy)
         && reason_fits(phy)
         && inbound_fits(phy)
         && connection_fits(phy)
@@ -244,6 +255,13 @@ static void enter_link(struct phy *phy, uint64_t link)
     phy->source = 0;
     phy->inbound_protocol = 0;
     phy->far_closed = 0;
+}
+
+/* The part of a millisecond begins at 0 with the Open and is not carried out of P2. */
+static void enter_port(struct phy *phy, uint64_t port)
+{
+    phy->port = port;
+    phy->part = 0;
 }
 
 static void give_answer(struct phy_result *result, uint64_t answer)
@@ -284,7 +302,7 @@ static void become_connected(struct phy_result *result, uint64_t protocol)
     struct phy *phy = &result->phy;
 
     enter_link(phy, LINK_CONNECTED);
-    phy->port = PORT_CONNECTED;
+    enter_port(phy, PORT_CONNECTED);
     phy->request = (struct phy_request){0};
     phy->connection_protocol = protocol;
     result->notice = NOTICE_OPENED;
@@ -300,7 +318,7 @@ static void send_break(struct phy_result *result, uint64_t link)
 static void give_up_open(struct phy_result *result, uint64_t link, uint64_t reason)
 {
     send_break(result, link);
-    result->phy.port = PORT_WAIT_FOR_CLOSE;
+    enter_port(&result->phy, PORT_WAIT_FOR_CLOSE);
     result->phy.reason = reason;
 }
 
@@ -310,7 +328,7 @@ static void on_tx_open(struct phy_result *result, const struct phy_event *event)
 {
     struct phy *phy = &result->phy;
 
-    phy->port = PORT_REQ_WAIT;
+    enter_port(phy, PORT_REQ_WAIT);
     phy->request = request_of(event);
     if (phy->link == LINK_IDLE) {
         enter_link(phy, LINK_ARB_SEL);
@@ -418,7 +436,16 @@ static void on_close(struct phy_result *result)
 
 static void raise_wait(struct phy *phy)
 {
-    if (phy->port == PORT_REQ_WAIT && phy->request.wait < PHY_MOST_WAIT) {
+    if (phy->port != PORT_REQ_WAIT || phy->request.wait == PHY_MOST_WAIT) {
+        return;
+    }
+    if (phy->request.wait < PHY_SLOW_WAIT) {
+        phy->request.wait++;
+        return;
+    }
+    phy->part++;
+    if (phy->part == PHY_MILLISECOND) {
+        phy->part = 0;
         phy->request.wait++;
     }
 }

@@ -8,7 +8,11 @@
 enum {
     PHY_ARGUMENTS = 6,
     PHY_TIMER_START = 1000,
-    PHY_MOST_WAIT = 65535
+    PHY_MOST_WAIT = 65535,
+    /* From this wait on one more stands for a millisecond; up to it, for a tick. */
+    PHY_SLOW_WAIT = 32768,
+    /* In ticks. */
+    PHY_MILLISECOND = 1000
 };
 
 enum phy_link {
@@ -106,12 +110,14 @@ struct phy_request {
     uint64_t wait;
 };
 
-/* far_closed and accept are flags, 0 or 1; a record with any other number there is no valid one. */
+/* part: the ticks in P2 that the wait does not show yet; no answer carries it, so it stands beside the request.
+ * far_closed and accept are flags, 0 or 1; a record with any other number there is no valid one. */
 struct phy {
     uint64_t link;
     uint64_t port;
     uint64_t timer;
     struct phy_request request;
+    uint64_t part;
     uint64_t reason;
     uint64_t source;
     uint64_t inbound_protocol;

@@ -8,6 +8,9 @@ void make_dws_cases(struct case_file *file);
 void make_identify_cases(struct case_file *file);
 void make_phy_cases(struct case_file *file);
 
+/* More of the phy: the two slopes of its wait. */
+void make_wait_cases(struct case_file *file);
+
 /* Comes first in its file; false if its lines do not fill the buffer that they are meant for. */
 bool make_full_output_case(struct case_file *file);
 

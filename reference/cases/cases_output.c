@@ -6,7 +6,7 @@
 enum {
     FULL = 65536,
     PAIRS = 8185,
-    UNTOUCHED = 100
+    UNTOUCHED = 1
 };
 
 bool make_full_output_case(struct case_file *file)

@@ -4,7 +4,6 @@
 #include "phy_walk.h"
 
 enum {
-    MOST_CODE = 17,
     SHORT_ITEMS = 30,
     SEEDED_WALKS = 80
 };
@@ -186,18 +185,13 @@ static void try_arguments(struct case_file *file)
 
 /* ---- Records with one field changed ---- */
 
-/* Phy Disabled is taken in every valid state; the unknown code before it comes second to the state. */
 static void judge_field(struct case_file *file, const struct phy *phy, enum phy_field field, uint64_t value)
 {
     uint64_t fields[PHY_FIELDS];
-    struct phy_walk walk;
 
     phy_to_fields(phy, fields);
     fields[field] = value;
-    phy_walk_start(&walk, phy_from_fields(fields));
-    phy_walk_add(&walk, 1, plain_event(0));
-    phy_walk_add(&walk, 1, plain_event(EVENT_PHY_DISABLED));
-    phy_walk_write(file, &walk);
+    phy_judge_record(file, phy_from_fields(fields));
 }
 
 static void judge_listed_values(struct case_file *file, const struct phy *phy)
@@ -257,42 +251,11 @@ static void play_script(struct case_file *file, const struct phy_item items[SCRI
     struct phy_walk walk;
 
     phy_walk_start(&walk, phy_fresh());
-    for (size_t i = 0; i < SCRIPT_ITEMS && items[i].repeat != 0; i++) {
-        phy_walk_add(&walk, items[i].repeat, items[i].event);
-    }
+    phy_walk_add_script(&walk, items);
     phy_walk_write(file, &walk);
 }
 
 /* ---- Seeded walks ---- */
-
-static struct phy_event random_event(struct case_file *file, const struct phy *now)
-{
-    uint64_t code = random_likely_code(file, now->link);
-
-    if (case_random_one_in(file, 10)) {
-        code = case_random_below(file, MOST_CODE + 1);
-    }
-
-    struct phy_event event = random_event_of(file, code);
-
-    if (case_random_one_in(file, 40)) {
-        uint64_t which = case_random_below(file, PHY_ARGUMENTS);
-
-        event.argument[which] = case_random(file);
-    }
-    return event;
-}
-
-/* A refused step prints a line each time, so only true ticks are repeated at length. */
-static uint64_t random_repeat(struct case_file *file, const struct phy_event *event)
-{
-    static const uint64_t ticks[] = {1, 1, 1, 2, 500, 998, 999, 1000, 1001, 1999, 2000};
-
-    if (event->code == EVENT_TICK && phy_event_is_valid(event)) {
-        return case_random_of(file, ticks, sizeof ticks / sizeof ticks[0]);
-    }
-    return case_random_one_in(file, 20) ? 2 : 1;
-}
 
 static void seeded_walk(struct case_file *file, struct phy start, size_t items)
 {
@@ -300,9 +263,7 @@ static void seeded_walk(struct case_file *file, struct phy start, size_t items)
 
     phy_walk_start(&walk, start);
     while (walk.count < items) {
-        struct phy_event event = random_event(file, &walk.now);
-
-        phy_walk_add(&walk, random_repeat(file, &event), event);
+        phy_walk_add_random(file, &walk);
     }
     phy_walk_write(file, &walk);
 }

@@ -78,10 +78,11 @@ static void try_all_small_edges(struct case_file *file)
         {EVENT_TICK, EVENT_TICK}, {EVENT_CANCEL_OPEN, 0}, {0, EVENT_TICK}, {EVENT_TX_OPEN, 0xFF}
     };
     const struct phy fresh = phy_fresh();
-    struct phy starts[] = {fresh, sample_record(LINK_IDLE, PORT_CONNECTED, 0), fresh, fresh};
+    struct phy starts[] = {fresh, sample_record(LINK_IDLE, PORT_CONNECTED, 0), fresh, fresh, fresh};
 
     starts[2].far_closed = 2;
     starts[3].accept = UINT64_MAX;
+    starts[4].part = 1;
     for (size_t i = 0; i < sizeof traces / sizeof traces[0]; i++) {
         for (size_t length = 0; length <= sizeof traces[i]; length++) {
             struct pieces trace;
@@ -209,12 +210,17 @@ static void judge_field(struct case_file *file, const struct phy *phy, enum phy_
     chain_run(&chain, sizeof bytes, sizeof bytes, &trace);
 }
 
+static void judge_listed_values(struct case_file *file, const struct phy *phy, enum phy_field field)
+{
+    for (size_t i = 0; i < phy_field_values[field].count; i++) {
+        judge_field(file, phy, field, phy_field_values[field].values[i]);
+    }
+}
+
 static void judge_fields(struct case_file *file, const struct phy *phy)
 {
     for (enum phy_field field = FIELD_LINK; field < PHY_FIELDS; field++) {
-        for (size_t i = 0; i < phy_field_values[field].count; i++) {
-            judge_field(file, phy, field, phy_field_values[field].values[i]);
-        }
+        judge_listed_values(file, phy, field);
     }
 }
 
@@ -229,6 +235,30 @@ static void run_every_code(struct case_file *file, struct phy phy)
     }
 }
 
+/* In P2 a part can be other than 0, but not with the most wait, and in P4 not at all. */
+static void start_on_second_slope(struct case_file *file, struct phy phy)
+{
+    phy.request.wait = PHY_MOST_WAIT;
+    judge_listed_values(file, &phy, FIELD_PART);
+    phy.request.wait = SECOND_SLOPE_WAIT;
+    judge_listed_values(file, &phy, FIELD_PART);
+    phy.part = PHY_MILLISECOND - 1;
+    if (phy_is_valid(&phy)) {
+        run_every_code(file, phy);
+    }
+}
+
+static void start_from(struct case_file *file, struct phy phy)
+{
+    judge_fields(file, &phy);
+    run_every_code(file, phy);
+    phy.accept = 1;
+    run_every_code(file, phy);
+    if (phy.port == PORT_REQ_WAIT || phy.port == PORT_WAIT_FOR_CLOSE) {
+        start_on_second_slope(file, phy);
+    }
+}
+
 static void start_from_every_pair(struct case_file *file)
 {
     for (uint64_t link = LINK_IDLE; link <= LINK_BREAK; link++) {
@@ -236,10 +266,7 @@ static void start_from_every_pair(struct case_file *file)
             struct phy phy = sample_record(link, port, 0);
 
             if (phy_is_valid(&phy)) {
-                judge_fields(file, &phy);
-                run_every_code(file, phy);
-                phy.accept = 1;
-                run_every_code(file, phy);
+                start_from(file, phy);
             }
         }
     }
@@ -249,7 +276,7 @@ static void start_from_every_pair(struct case_file *file)
 
 /* Answers and refusals lie far apart in them, or the lines would be too long. */
 static const struct phy_item cycles[][SCRIPT_ITEMS] = {
-    /* AIPs keep a request waiting, so its wait comes to the most. */
+    /* AIPs keep a request waiting, so its wait comes to the second slope; that of the late one, to the most. */
     {PLAIN(499, EVENT_TICK), PLAIN(1, EVENT_AIP)},
     {PLAIN(1, EVENT_TICK)},
     {TX_OPEN(7, 1, 0), PLAIN(2000, EVENT_TICK)},
@@ -257,13 +284,17 @@ static const struct phy_item cycles[][SCRIPT_ITEMS] = {
     {PLAIN(1, EVENT_CANCEL_OPEN)},
     {PLAIN(1, EVENT_ACCEPT_OPENS), OPEN_FROM(7, 0), PLAIN(50, EVENT_TICK), PLAIN(1, EVENT_CLOSE),
      PLAIN(1, EVENT_CLOSE_CONNECTION)},
-    {PLAIN(1, EVENT_REJECT_OPENS), TX_OPEN(7, 2, 65500), PLAIN(1, EVENT_AIP), PLAIN(45, EVENT_TICK),
+    {PLAIN(1, EVENT_REJECT_OPENS), TX_OPEN(7, 2, 32750), PLAIN(1, EVENT_AIP), PLAIN(45, EVENT_TICK),
      OPEN_FROM(8, 2), PLAIN(1, EVENT_TICK), PLAIN(1, EVENT_BREAK)},
     {TX_OPEN(9, 0, 0), PLAIN(50, EVENT_TICK), PLAIN(1, EVENT_BREAK), PLAIN(1, EVENT_TICK)},
     {TX_OPEN(7, 1, 3), PLAIN(1, EVENT_OPEN_ACCEPT), PLAIN(1, EVENT_CLOSE_CONNECTION),
      PLAIN(2001, EVENT_TICK)}
 };
 enum { CYCLES = sizeof cycles / sizeof cycles[0] };
+
+static const struct phy_event late_open = {
+    EVENT_TX_OPEN, {WANTED_ADDRESS, PROTOCOL_SSP, RATE_3_GBPS, 300, 2, 65500}
+};
 
 /* As often as it goes into the longest trace, then ticks up to its last byte. */
 static void repeat_cycle(struct pieces *trace, const struct phy_item items[SCRIPT_ITEMS])
@@ -281,13 +312,13 @@ static void repeat_cycle(struct pieces *trace, const struct phy_item items[SCRIP
 }
 
 /* The first run of a cycle breaks off in the middle of it, so the next starts in another state. */
-static void walk_long(struct case_file *file, size_t stride)
+static void walk_long(struct case_file *file, size_t stride, struct phy_event open)
 {
     struct chain chain = start_chain(file, phy_fresh(), 1 + 2 * CYCLES);
     struct pieces trace;
 
     pieces_clear(&trace);
-    pieces_add_event(&trace, 1, sample_event(EVENT_TX_OPEN));
+    pieces_add_event(&trace, 1, open);
     chain_run(&chain, 1, 1, &trace);
     for (size_t i = 0; i < CYCLES; i++) {
         repeat_cycle(&trace, cycles[i * stride % CYCLES]);
@@ -429,8 +460,8 @@ void make_run_cases(struct case_file *file)
     run_padded_into_faults(file);
     one_event_at_a_time(file);
     start_from_every_pair(file);
-    walk_long(file, 1);
-    walk_long(file, CYCLES - 1);
+    walk_long(file, 1, sample_event(EVENT_TX_OPEN));
+    walk_long(file, CYCLES - 1, late_open);
     walk_long_padded(file);
     chain_from_every_pair(file);
     for (int i = 0; i < SEEDED_CHAINS; i++) {

@@ -9,6 +9,7 @@ enum case_seed {
     SEED_DWS = 2002,
     SEED_IDENTIFY = 3003,
     SEED_PHY = 4004,
+    SEED_WAIT = 5005,
     SEED_READ_EVENT = 6006,
     SEED_WRITE_EVENT = 7007,
     SEED_TRACE = 8008,
@@ -52,6 +53,8 @@ static bool make_machine_cases(const char *folder)
     make_identify_cases(&file);
     file.random = SEED_PHY;
     make_phy_cases(&file);
+    file.random = SEED_WAIT;
+    make_wait_cases(&file);
     return close_cases(&file);
 }
 

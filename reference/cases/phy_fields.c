@@ -9,7 +9,8 @@ const struct field_values phy_field_values[PHY_FIELDS] = {
     [FIELD_RATE] = {6, {0, 1, 7, 8, 9, 10}},
     [FIELD_TAG] = {5, {0, 1, 65535, 65536, UINT64_MAX}},
     [FIELD_BLOCKED] = {5, {0, 1, 255, 256, UINT64_MAX}},
-    [FIELD_WAIT] = {5, {0, 1, 65535, 65536, UINT64_MAX}},
+    [FIELD_WAIT] = {9, {0, 1, 32767, 32768, 32769, 65534, 65535, 65536, UINT64_MAX}},
+    [FIELD_PART] = {7, {0, 1, 999, 1000, 1001, 65536, UINT64_MAX}},
     [FIELD_REASON] = {8, {0, 1, 68, 69, 70, 71, 72, 80}},
     [FIELD_SOURCE] = {3, {0, 1, UINT64_MAX}},
     [FIELD_INBOUND] = {5, {0, 1, 2, 3, UINT64_MAX}},
@@ -34,6 +35,7 @@ void phy_to_fields(const struct phy *phy, uint64_t fields[PHY_FIELDS])
     fields[FIELD_PORT] = phy->port;
     fields[FIELD_TIMER] = phy->timer;
     request_to_arguments(&phy->request, fields + FIELD_DESTINATION);
+    fields[FIELD_PART] = phy->part;
     fields[FIELD_REASON] = phy->reason;
     fields[FIELD_SOURCE] = phy->source;
     fields[FIELD_INBOUND] = phy->inbound_protocol;
@@ -56,6 +58,7 @@ struct phy phy_from_fields(const uint64_t fields[PHY_FIELDS])
             .blocked = fields[FIELD_BLOCKED],
             .wait = fields[FIELD_WAIT]
         },
+        .part = fields[FIELD_PART],
         .reason = fields[FIELD_REASON],
         .source = fields[FIELD_SOURCE],
         .inbound_protocol = fields[FIELD_INBOUND],

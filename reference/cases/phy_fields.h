@@ -14,6 +14,7 @@ enum phy_field {
     FIELD_TAG,
     FIELD_BLOCKED,
     FIELD_WAIT,
+    FIELD_PART,
     FIELD_REASON,
     FIELD_SOURCE,
     FIELD_INBOUND,

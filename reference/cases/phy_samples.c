@@ -124,25 +124,32 @@ const size_t phy_tour_count = sizeof phy_tour / sizeof phy_tour[0];
 
 /* ---- Records ---- */
 
+/* Of both slopes; with each part the wait is a valid one in P2. */
+static const struct {
+    uint64_t wait;
+    uint64_t part;
+} sample_waits[] = {
+    {0, 0}, {65534, 999}, {65535, 0}, {32767, 0}, {32768, 0}, {SECOND_SLOPE_WAIT, 500}
+};
+enum { WAITS = sizeof sample_waits / sizeof sample_waits[0] };
+
 size_t variant_count(uint64_t link, uint64_t port)
 {
     if (port == PORT_REQ_WAIT || port == PORT_WAIT_FOR_CLOSE) {
-        return link == LINK_SELECTED || link == LINK_BREAK_WAIT ? 6 : 3;
+        return WAITS;
     }
     return port == PORT_CONNECTED || link == LINK_SELECTED ? 3 : 1;
 }
 
 static struct phy_request sample_request(size_t variant)
 {
-    static const uint64_t waits[] = {0, 65534, 65535};
-
     return (struct phy_request){
         .destination = WANTED_ADDRESS,
         .protocol = variant % 3,
         .rate = variant % 2 == 0 ? RATE_1_5_GBPS : RATE_3_GBPS,
         .tag = 300,
         .blocked = 2,
-        .wait = waits[variant % 3]
+        .wait = sample_waits[variant].wait
     };
 }
 
@@ -168,6 +175,9 @@ struct phy sample_record(uint64_t link, uint64_t port, size_t variant)
     if (port == PORT_REQ_WAIT || port == PORT_WAIT_FOR_CLOSE) {
         phy.request = sample_request(variant);
     }
+    if (port == PORT_REQ_WAIT) {
+        phy.part = sample_waits[variant].part;
+    }
     if (port == PORT_CONNECTED) {
         phy.connection_protocol = variant % 3;
     }
@@ -191,9 +201,15 @@ const struct phy_item phy_scripts[][SCRIPT_ITEMS] = {
     {TX_OPEN(7, 1, 0), PLAIN(1500, EVENT_TICK), PLAIN(1, EVENT_AIP), PLAIN(499, EVENT_TICK),
      PLAIN(1, EVENT_TICK)},
     {TX_OPEN(7, 1, 0), PLAIN(1000, EVENT_TICK), PLAIN(1, EVENT_AIP), PLAIN(1000, EVENT_TICK)},
-    /* The wait stops at 65,535. */
-    {TX_OPEN(7, 0, 64536), PLAIN(998, EVENT_TICK), PLAIN(1, EVENT_TICK), PLAIN(1, EVENT_AIP),
-     PLAIN(1, EVENT_TICK), PLAIN(1, EVENT_OPEN_ACCEPT)},
+    /* The wait comes to 32,768 with the next tick, and to 32,769 with the thousandth behind it. */
+    {TX_OPEN(7, 0, 32767), PLAIN(1, EVENT_TICK), PLAIN(998, EVENT_TICK), PLAIN(1, EVENT_AIP),
+     PLAIN(1, EVENT_TICK), PLAIN(1, EVENT_TICK), PLAIN(1, EVENT_OPEN_ACCEPT)},
+    /* It stops at 65,535. */
+    {TX_OPEN(7, 0, 65534), PLAIN(998, EVENT_TICK), PLAIN(1, EVENT_TICK), PLAIN(1, EVENT_AIP),
+     PLAIN(1, EVENT_TICK), PLAIN(1, EVENT_TICK), PLAIN(1, EVENT_OPEN_ACCEPT)},
+    /* Another Open begins with no part of a millisecond. */
+    {TX_OPEN(7, 2, 32767), PLAIN(3, EVENT_TICK), OPEN_FROM(8, 0), PLAIN(1, EVENT_BREAK), PLAIN(1, EVENT_TICK),
+     TX_OPEN(7, 2, SECOND_SLOPE_WAIT), PLAIN(1, EVENT_TICK), PLAIN(1, EVENT_CANCEL_OPEN), PLAIN(1, EVENT_BREAK)},
     /* Opened from outside with a request waiting. */
     {PLAIN(1, EVENT_ACCEPT_OPENS), OPEN_FROM(7, 1), TX_OPEN(7, 2, 0), PLAIN(1, EVENT_TICK),
      PLAIN(1, EVENT_CLOSE), PLAIN(1, EVENT_CLOSE_CONNECTION)},
@@ -285,7 +301,9 @@ static uint64_t random_address(struct case_file *file)
 
 static struct phy_event random_tx_open(struct case_file *file)
 {
-    static const uint64_t waits[] = {0, 0, 0, 64535, 64536, 65534, 65535};
+    static const uint64_t waits[] = {
+        0, 0, 0, 32766, 32767, 32768, 32769, 33000, 65533, 65534, 65535
+    };
     struct phy_event event = {.code = EVENT_TX_OPEN};
 
     event.argument[0] = random_address(file);

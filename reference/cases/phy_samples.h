@@ -9,7 +9,9 @@ enum {
     MOST_LISTED_EVENTS = 100,
     SCRIPT_ITEMS = 10,
     WANTED_ADDRESS = 5,
-    OTHER_ADDRESS = 8
+    OTHER_ADDRESS = 8,
+    /* A wait that counts milliseconds, far from both ends of its slope. */
+    SECOND_SLOPE_WAIT = 40000
 };
 
 /* Added to a number, they leave its low 8 or 32 bits as they were. */
