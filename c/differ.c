@@ -39,8 +39,8 @@ bool one_in(uint64_t chances)
 
 uint64_t random_any(void)
 {
-    static const uint64_t edges[] = {0, 1, 2, 3, 7, 8, 9, 69, 70, 71, 127, 128, 255, 256, 999, 1000, 1001, 65535, 65536,
-                                     UINT32_MAX, UINT64_C(1) << 32, UINT64_C(1) << 63, UINT64_MAX};
+    static const uint64_t edges[] = {0, 1, 2, 3, 7, 8, 9, 69, 70, 71, 127, 128, 255, 256, 998, 999, 1000, 1001, 32767, 32768,
+                                     65534, 65535, 65536, UINT32_MAX, UINT64_C(1) << 32, UINT64_C(1) << 63, UINT64_MAX};
 
     if (one_in(2)) {
         return edges[random_below(sizeof edges / sizeof edges[0])];
@@ -89,6 +89,7 @@ struct phy their_phy(const struct louravela_phy *phy)
         .timer = phy->timer,
         .request = {phy->request.destination, phy->request.protocol, phy->request.rate, phy->request.tag,
                     phy->request.blocked_count, phy->request.wait},
+        .part = phy->part,
         .reason = phy->reason,
         .source = phy->inbound_source,
         .inbound_protocol = phy->inbound_protocol,
@@ -116,12 +117,22 @@ void same_phy(const struct louravela_phy *ours, const struct phy *theirs)
     same("the port", ours->port, theirs->port);
     same("the timer", ours->timer, theirs->timer);
     same_open(&ours->request, &theirs->request);
+    same("the part of a millisecond", ours->part, theirs->part);
     same("the reason", ours->reason, theirs->reason);
     same("the source", ours->inbound_source, theirs->source);
     same("the inbound protocol", ours->inbound_protocol, theirs->inbound_protocol);
     same("the connection's protocol", ours->connection_protocol, theirs->connection_protocol);
     same("far-closed", ours->far_closed, theirs->far_closed);
     same("the accept flag", ours->accept, theirs->accept);
+}
+
+/* Where the wait's slope changes, near its most, or anywhere. */
+static uint64_t random_wait(void)
+{
+    if (one_in(3)) {
+        return 32760 + random_below(12);
+    }
+    return one_in(3) ? 65530 + random_below(6) : random_any() % 65536;
 }
 
 struct louravela_event known_event(void)
@@ -137,7 +148,7 @@ struct louravela_event known_event(void)
         event.third = 8 + random_below(2);
         event.fourth = random_any() % 65536;
         event.fifth = random_any() % 256;
-        event.sixth = one_in(4) ? 65530 + random_below(6) : random_any() % 65536;
+        event.sixth = random_wait();
     }
     if (event.code == LOURAVELA_OPEN_REJECT_RECEIVED) {
         event.first = random_below(8);

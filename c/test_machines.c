@@ -170,6 +170,83 @@ static void test_opened(void)
     EXPECT(step.next.accept, 0);
 }
 
+static struct louravela_phy waiting_from(uint64_t wait)
+{
+    struct louravela_event event = tx_open(5);
+
+    event.sixth = wait;
+    return after(louravela_phy_fresh(), event);
+}
+
+/* microseconds to 32,768, then a thousand ticks for each further one, to 65,535. */
+static void test_slopes(void)
+{
+    struct louravela_phy phy = after_ticks(waiting_from(32767), 1);
+
+    EXPECT(phy.request.wait, 32768);
+    EXPECT(phy.part, 0);
+    phy = after_ticks(phy, 998);
+    EXPECT(phy.request.wait, 32768);
+    EXPECT(phy.part, 998);
+    phy = after_ticks(after(phy, event_of(LOURAVELA_AIP_RECEIVED)), 1);
+    EXPECT(phy.part, 999);
+    phy = after_ticks(phy, 1);
+    EXPECT(phy.request.wait, 32769);
+    EXPECT(phy.part, 0);
+    phy = waiting_from(40000);
+    EXPECT(phy.part, 0);
+    phy = after_ticks(waiting_from(65534), 999);
+    EXPECT(phy.request.wait, 65534);
+    EXPECT(phy.part, 999);
+    phy = after_ticks(after(phy, event_of(LOURAVELA_AIP_RECEIVED)), 1);
+    EXPECT(phy.request.wait, 65535);
+    EXPECT(phy.part, 0);
+    phy = after_ticks(phy, 998);
+    EXPECT(phy.request.wait, 65535);
+    EXPECT(phy.part, 0);
+}
+
+/* the part goes on while the port is in P2, ends with it, and no answer carries it. */
+static void test_part_in_P2(void)
+{
+    struct louravela_phy phy = after_ticks(waiting_from(32768), 999);
+    struct louravela_phy selected = after(phy, open_received(7, LOURAVELA_SMP));
+    struct louravela_phy broken = after(selected, event_of(LOURAVELA_BREAK_RECEIVED));
+    struct louravela_phy given_up = after(phy, event_of(LOURAVELA_CANCEL_OPEN));
+    struct louravela_stepped step = louravela_phy_step(broken, event_of(LOURAVELA_TICK));
+
+    EXPECT(selected.part, 999);
+    EXPECT(broken.part, 999);
+    EXPECT(step.answer, LOURAVELA_ANSWER_COLLIDED);
+    EXPECT(step.answered.wait, 32769);
+    EXPECT(step.next.part, 0);
+    EXPECT(given_up.part, 0);
+    EXPECT(given_up.request.wait, 32768);
+    step = louravela_phy_step(phy, event_of(LOURAVELA_OPEN_ACCEPT_RECEIVED));
+    EXPECT(step.answered.wait, 32768);
+    EXPECT(step.next.part, 0);
+}
+
+static void test_bad_parts(void)
+{
+    static const uint64_t waits[] = {0, 32767, 65535};
+    struct louravela_event tick = event_of(LOURAVELA_TICK);
+    struct louravela_phy phy = waiting_from(32768);
+    struct louravela_phy given_up = after(phy, event_of(LOURAVELA_CANCEL_OPEN));
+
+    phy.part = 1000;
+    EXPECT_REFUSED(phy, tick, LOURAVELA_BAD_STATE);
+    phy.part = UINT64_MAX;
+    EXPECT_REFUSED(phy, tick, LOURAVELA_BAD_STATE);
+    given_up.part = 1;
+    EXPECT_REFUSED(given_up, tick, LOURAVELA_BAD_STATE);
+    for (size_t i = 0; i < sizeof waits / sizeof waits[0]; i++) {
+        phy = waiting_from(waits[i]);
+        phy.part = 1;
+        EXPECT_REFUSED(phy, tick, LOURAVELA_BAD_STATE);
+    }
+}
+
 /* ---- The two machines beside the phy ---- */
 
 static uint64_t dws_after(uint64_t state, const uint64_t *events, size_t count)
@@ -277,6 +354,9 @@ void test_machines(void)
     test_refusals_of_events();
     test_timeout();
     test_opened();
+    test_slopes();
+    test_part_in_P2();
+    test_bad_parts();
     test_dws();
     test_identify();
     test_identify_refusals();

@@ -25,7 +25,7 @@
 #include <stdint.h>
 
 /* The version of this header and of the archives that are built beside it. */
-#define LOURAVELA_VERSION "4.3.1"
+#define LOURAVELA_VERSION "4.4.0"
 
 #ifdef __cplusplus
 extern "C" {
@@ -133,7 +133,10 @@ enum {
     LOURAVELA_SENT_BREAK = 5
 };
 
-/* The six arguments of a Tx Open. */
+/*
+ * The six arguments of a Tx Open. A wait has two slopes: below 32,768 it is microseconds, and from there on a wait of v
+ * means 32,768 microseconds and v - 32,768 milliseconds.
+ */
 struct louravela_open {
     uint64_t destination;
     uint64_t protocol;
@@ -149,6 +152,7 @@ struct louravela_phy {
     uint64_t port;
     uint64_t timer;                /* ticks left, 1 to 1,000, in L1, L4 and L5 */
     struct louravela_open request; /* in P2 and P4, its wait as it has grown */
+    uint64_t part;                 /* in P2 with a wait from 32,768 to 65,534: ticks beyond the wait, 0 to 999 */
     uint64_t reason;               /* in P4: the answer that it is waiting to give */
     uint64_t inbound_source;       /* in L2: who opens us */
     uint64_t inbound_protocol;     /* in L2: and by which protocol */

@@ -18,6 +18,7 @@ phyNumbers p =
     ∷ p .request .tag
     ∷ p .request .blockedCount
     ∷ p .request .wait
+    ∷ p .part
     ∷ p .reason
     ∷ p .inboundSource
     ∷ p .inboundProtocol
@@ -46,12 +47,13 @@ phyOf f =
       port = getD f 1 0;
       timer = getD f 2 0;
       request = requestOf f;
-      reason = getD f 9 0;
-      inboundSource = getD f 10 0;
-      inboundProtocol = getD f 11 0;
-      connectionProtocol = getD f 12 0;
-      farClosed = getD f 13 0;
-      settings = record { accept = getD f 14 0 };
+      part = getD f 9 0;
+      reason = getD f 10 0;
+      inboundSource = getD f 11 0;
+      inboundProtocol = getD f 12 0;
+      connectionProtocol = getD f 13 0;
+      farClosed = getD f 14 0;
+      settings = record { accept = getD f 15 0 };
     }
 
 -- the event of numbers: its code and six arguments

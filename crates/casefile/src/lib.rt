@@ -13,7 +13,7 @@ pub use records::phy_of;
 pub use window::next_case;
 
 // The numbers of a phy.
-pub const PHY_NUMBERS: usize = 15;
+pub const PHY_NUMBERS: usize = 16;
 
 // The numbers of an event: its code and six arguments.
 pub const EVENT_NUMBERS: usize = 7;

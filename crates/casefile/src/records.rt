@@ -18,17 +18,18 @@ pub fn phy_of(f: [u64; PHY_NUMBERS]) -> Phy
         blockedCount: f[7],
         wait: f[8],
     };
-    let settings = Settings { accept: f[14] };
+    let settings = Settings { accept: f[15] };
     Phy {
         link: f[0],
         port: f[1],
         timer: f[2],
         request,
-        reason: f[9],
-        inboundSource: f[10],
-        inboundProtocol: f[11],
-        connectionProtocol: f[12],
-        farClosed: f[13],
+        part: f[9],
+        reason: f[10],
+        inboundSource: f[11],
+        inboundProtocol: f[12],
+        connectionProtocol: f[13],
+        farClosed: f[14],
         settings,
     }
 }
@@ -49,6 +50,7 @@ pub fn phy_numbers(p: Phy) -> [u64; PHY_NUMBERS]
         request.tag,
         request.blockedCount,
         request.wait,
+        p.part,
         p.reason,
         p.inboundSource,
         p.inboundProtocol,

@@ -28,7 +28,7 @@ pub(crate) struct Walk {
 
 // The numbers of a state.
 fn numbers_of(kind: u64) -> usize
-    ensures { λ r. ⌜ r ≤ 15 ⌝ }
+    ensures { λ r. ⌜ r ≤ 16 ⌝ }
 {
     match kind {
         DWS_WALK => 1,

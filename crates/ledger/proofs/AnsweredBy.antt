@@ -26,11 +26,11 @@ use Rattle.ledger.proofs.Demand.{follow, in-time-by}
 
 -- ---- one entry while an Open waits: it waits on, or is answered
 
-data Next (w : Waiting) (x : Entry) : Type 0 where
+pub data Next (w : Waiting) (x : Entry) : Type 0 where
   waits-on : accepted x ≡ false → x .result .answer ≡ 0 → book (waiting w) x ≡ waiting (through w x) → Next w x
   answered-now : isAnswer (x .result .answer) ≡ true → x .result .answered ≡ grown (through w x) → Next w x
 
-next : (w : Waiting) (x : Entry) → (book (waiting w) x ≡ broken → ⊥) → Next w x
+pub next : (w : Waiting) (x : Entry) → (book (waiting w) x ≡ broken → ⊥) → Next w x
 unfolding book
 next w x n =
     by-test (accepted x)

@@ -1,11 +1,11 @@
 -- One entry: a valid phy and books that agree with it agree after any event.
-use Prim.Native.Nat.{ℕ, _+_, _*_, _≤_, min}
-use mathlib.Core.Bool.{Bool, true, false, _&&_, not, false≢true}
+use Prim.Native.Nat.{ℕ, _+_, _*_, _≤_}
+use mathlib.Core.Bool.{Bool, true, false, not, and-false, false≢true}
 use mathlib.Core.Path.{_≡_, refl, sym, ap, subst, _∙_}
 use native.Mathlib.Nat.{add-zero}
 use native.Mathlib.Omega.{arith}
-use borrow.Author.Tests.{eq-eqb, eqb-true, leb-true, leb-false}
-use lib.Dec.{eqb, leb}
+use borrow.Author.Tests.{eq-eqb, eqb-true}
+use lib.Dec.{eqb}
 use Rattle.table.specs.Choice.{pick}
 use Rattle.table.proofs.Laws.{apart, by-test, by-pick, parts}
 use Rattle.table.specs.Refusals.{badEvent}
@@ -14,10 +14,11 @@ use Rattle.event.specs.Table.{openOf, knownOf, sameOpen}
 use Rattle.event.specs.declared.Event.{Event}
 use Rattle.event.specs.declared.Open.{Open}
 use Rattle.phy.specs.Names.{P2}
-use Rattle.phy.specs.Shapes.{noOpen, refused}
+use Rattle.phy.specs.Shapes.{_and_, noOpen, withWait, refused}
 use Rattle.phy.specs.State.{validOf}
-use Rattle.phy.specs.Ticks.{longer}
+use Rattle.phy.specs.Ticks.{longer, waitedOf, aged}
 use Rattle.phy.specs.Step.{moveOf, stepOf}
+use Rattle.phy.specs.declared.Waited.{Waited}
 use Rattle.phy.specs.declared.Phy.{Phy}
 use Rattle.phy.specs.declared.Stepped.{Stepped}
 use Rattle.phy_laws.specs.Waiting.{waits, isAnswer}
@@ -25,18 +26,20 @@ use Rattle.phy_laws.proofs.Counting.{accepts, heard, ticksOf, aipsOf, left}
 use Rattle.phy_laws.specs.Laws.{Judged}
 use Rattle.phy_laws.proofs.Refusals.{step-is-move, not-refused-exactly}
 use Rattle.phy_laws.proofs.Shapes.{by-shape}
-use Rattle.phy_laws.proofs.OneStep.{Stepping, wait-known, open-known, at-least-one}
+use Rattle.phy_laws.proofs.OneStep.{Stepping, wait-known, open-known, no-part, at-least-one}
 use Rattle.phy_laws.proofs.InUse.{runs}
 use Rattle.phy_laws.proofs.Steps.{by-way}
 use Rattle.phy_laws.proofs.Answers.{by-tally}
 use Rattle.ledger.specs.Log.{Entry, entry, notRefused, accepted, answered, ticked, tickedInP2, heardAip}
 use Rattle.ledger.specs.Demand.{oneIfWaiting}
-use Rattle.ledger.specs.Ledger.{due, Waiting, Ledger, free, waiting, broken, grown, begins, through, silent, book}
+use Rattle.ledger.specs.Ledger.{due, Waiting, Ledger, free, waiting, broken, waited, grown, begins, through, silent, book}
+use Rattle.ledger.proofs.Wait.{longer-waited, waited-none}
 
--- the books of a phy: free where no request waits; else its request is the accepted Open, grown, and what it may yet take is within what is due
+-- the books of a phy: free where no request waits; else its request is the accepted Open, grown, its part in P2 is the one that has grown with it, and what it may yet take is within what is due
 pub record Holds (p : Phy) (w : Waiting) : Type 0 where
   pub waits-too : waits (p .port) ≡ true
   pub request : p .request ≡ grown w
+  pub part : p .port ≡ P2 → p .part ≡ waited w .part
   pub in-time : w .ticks + left p ≤ due (w .aips)
 
 abbrev pub Agrees : Phy → Ledger → Type 0
@@ -63,23 +66,13 @@ is-silent x a n = rw (eq-eqb (x .result .answer) 0 a, same (x .result .answered)
 pub not-silent : (x : Entry) → isAnswer (x .result .answer) ≡ true → silent x ≡ false
 not-silent x a = rw (code-not-zero (x .result .answer) a)
 
--- ---- the wait grows as the request does
+-- ---- an accepted Open begins with its own wait, which is in its range, and with no part
 
-grown-longer : (w : Waiting) → longer (grown w) ≡ grown (record { open-as-accepted = w .open-as-accepted; ticks-in-P2 = w .ticks-in-P2 + 1; ticks = w .ticks; aips = w .aips })
-unfolding longer
-grown-longer w =
-    let n = w .open-as-accepted .wait + w .ticks-in-P2 in
-    let e : pick (leb mostWait (min mostWait n)) (min mostWait n) (min mostWait n + 1) ≡ min mostWait (w .open-as-accepted .wait + (w .ticks-in-P2 + 1)) =
-    by-pick (λ m. m ≡ min mostWait (w .open-as-accepted .wait + (w .ticks-in-P2 + 1))) (leb mostWait (min mostWait n))
-    (λ t. omega (arith, leb-true mostWait (min mostWait n) t))
-    (λ f. omega (arith, leb-false mostWait (min mostWait n) f)) in
-    ap (λ (v : ℕ). record { destination = w .open-as-accepted .destination; protocol = w .open-as-accepted .protocol; rate = w .open-as-accepted .rate; tag = w .open-as-accepted .tag; blockedCount = w .open-as-accepted .blockedCount; wait = v }) e
+begins-with : (x : Entry) → x .event .sixth ≤ mostWait → waited (begins x) ≡ x .event .sixth and 0
+begins-with x h = waited-none (x .event .sixth and 0) (record { wait = h; part = no-part P2 (x .event .sixth) })
 
--- an accepted Open begins with its own wait, which is in its range
 grown-begins : (x : Entry) → x .event .sixth ≤ mostWait → openOf (x .event) ≡ grown (begins x)
-grown-begins x h =
-    let e : x .event .sixth ≡ min mostWait (x .event .sixth + 0) = omega arith in
-    ap (λ (v : ℕ). record { destination = x .event .first; protocol = x .event .second; rate = x .event .third; tag = x .event .fourth; blockedCount = x .event .fifth; wait = v }) e
+grown-begins x h = ap (λ (v : Waited). withWait (openOf (x .event)) (v .wait)) (sym (begins-with x h))
 
 -- ---- refused events count as neither
 
@@ -128,13 +121,33 @@ module _ (p : Phy) (e : Event) (v : validOf p ≡ true) (k : knownOf e ≡ true)
   counts-aips : notRefused aipReceived x ≡ eqb (e .code) aipReceived
   counts-aips = counts aipReceived (omega arith) (omega arith) (omega arith) (omega arith)
 
-  -- the request that waits has grown as the books say
-  heard-grown : (w : Waiting) → p .request ≡ grown w → heard p e ≡ grown (through w x)
-  unfolding heard
-  heard-grown w q =
-      by-test (eqb (e .code) tick && eqb (p .port) P2)
-      (λ t. rw (t, counts-ticks, t, q) (grown-longer w))
-      (λ f. rw (f, counts-ticks, f, q, add-zero (w .ticks-in-P2)))
+  -- the request that waits has grown as the books say, and so has its part
+  heard-waited : (w : Waiting) → p .request ≡ grown w → p .part ≡ waited w .part → p .port ≡ P2 → waitedOf (heard p e) ≡ waited (through w x)
+  unfolding heard aged
+  heard-waited w q r u =
+      let v : waitedOf p ≡ waited w = λ i. q i .wait and r i in
+      by-test (eqb (e .code) tick)
+      (λ t. rw (counts-ticks, t, eq-eqb (p .port) P2 u) (ap longer v ∙ longer-waited (w .open-as-accepted .wait and 0) (w .ticks-in-P2)))
+      (λ f. rw (counts-ticks, f, add-zero (w .ticks-in-P2)) v)
+
+  -- of the request nothing else changes, and outside P2 nothing at all
+  heard-but-wait : heard p e .request ≡ withWait (p .request) (heard p e .request .wait)
+  unfolding heard aged
+  heard-but-wait =
+      let P : Phy → Type 0 = λ q. q .request ≡ withWait (p .request) (q .request .wait) in
+      by-pick P (eqb (e .code) tick) (λ _. by-pick P (eqb (p .port) P2) (λ _. refl) (λ _. refl)) (λ _. refl)
+
+  heard-outside : eqb (p .port) P2 ≡ false → heard p e ≡ p
+  unfolding heard aged
+  heard-outside f = by-pick (λ q. q ≡ p) (eqb (e .code) tick) (λ _. rw f) (λ _. refl)
+
+  heard-grown : (w : Waiting) → p .request ≡ grown w → (p .port ≡ P2 → p .part ≡ waited w .part) → heard p e .request ≡ grown (through w x)
+  heard-grown w q r =
+      by-test (eqb (p .port) P2)
+      (λ t. let u = eqb-true (p .port) P2 t in
+      let h = heard-waited w q (r u) u in
+      heard-but-wait ∙ (λ i. withWait (q i) (h i .wait)))
+      (λ f. rw (heard-outside f, f, and-false (notRefused tick x), add-zero (w .ticks-in-P2)) q)
 
   -- what it may yet take stays within what is due
   in-due : (w : Waiting) → w .ticks + left p ≤ due (w .aips) → left (moveOf p e .next) + ticksOf e ≤ left p + 999 * aipsOf e
@@ -148,12 +161,13 @@ module _ (p : Phy) (e : Event) (v : validOf p ≡ true) (k : knownOf e ≡ true)
       by-tally (Agrees (moveOf p e .next) (book free x)) p e (moveOf p e) (s .tally)
       (λ w _ _. absurd (false≢true (sym a ∙ w)))
       (λ w _ _. absurd (false≢true (sym a ∙ w)))
-      (λ _ u t. rw (is-silent x (t .silent) (t .none), t .opens) (record { waits-too = u; request = t .request ∙ grown-begins x (wait-known (openOf e) (open-known e k (eqb-true (e .code) txOpen (parts (eqb (e .code) txOpen) (eqb (moveOf p e .refusal) 0) (t .opens) .0)))); in-time = omega (arith, t .soon) }))
+      (λ _ u t. let h = wait-known (openOf e) (open-known e k (eqb-true (e .code) txOpen (parts (eqb (e .code) txOpen) (eqb (moveOf p e .refusal) 0) (t .opens) .0))) in
+      rw (is-silent x (t .silent) (t .none), t .opens) (record { waits-too = u; request = t .request ∙ grown-begins x h; part = λ _. t .part ∙ ap (λ (v : Waited). v .part) (sym (begins-with x h)); in-time = omega (arith, t .soon) }))
       (λ _ u n. rw (is-silent x (n .silent) (n .none), n .opens) u)
   agree-moved (waiting w) a s =
       by-tally (Agrees (moveOf p e .next) (book (waiting w) x)) p e (moveOf p e) (s .tally)
-      (λ _ u t. rw (t .opens, is-silent x (t .silent) (t .none)) (record { waits-too = u; request = t .request ∙ heard-grown w (a .request); in-time = in-due w (a .in-time) (t .falls) }))
-      (λ _ u t. rw (t .opens, not-silent x (t .code), t .code, same (x .result .answered) (grown (through w x)) (t .carries ∙ heard-grown w (a .request))) u)
+      (λ _ u t. rw (t .opens, is-silent x (t .silent) (t .none)) (record { waits-too = u; request = t .request ∙ heard-grown w (a .request) (a .part); part = λ q. t .part q .1 ∙ ap (λ (v : Waited). v .part) (heard-waited w (a .request) (a .part (t .part q .0)) (t .part q .0)); in-time = in-due w (a .in-time) (t .falls) }))
+      (λ _ u t. rw (t .opens, not-silent x (t .code), t .code, same (x .result .answered) (grown (through w x)) (t .carries ∙ heard-grown w (a .request) (a .part))) u)
       (λ f _ _. absurd (false≢true (sym f ∙ a .waits-too)))
       (λ f _ _. absurd (false≢true (sym f ∙ a .waits-too)))
   agree-moved broken a s = absurd a

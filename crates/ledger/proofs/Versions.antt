@@ -5,6 +5,7 @@ use Rattle.event.specs.Table.{openOf}
 use Rattle.phy.specs.Moves.{toIdle, openByLink, onTxOpen}
 use Rattle.phy.specs.Ticks.{longer, aged, tickRequesting, tickBreaking, onTickAged, onTick}
 use Rattle.phy.specs.Step.{moveOf}
+use Rattle.ledger.specs.Wait.{meant, inField, waitedFor}
 use Rattle.ledger.specs.Ledger.{book}
 use Rattle.ledger.specs.Demand.{openToFive}
 use Rattle.ledger.specs.Versions.{stepTwo, stepThree, VersionTwoLate, VersionThreeTwice}
@@ -16,5 +17,5 @@ version-two-late = (record { open-as-accepted = openOf openToFive; ticks-in-P2 =
 
 -- tick 1,000 answers, tick 2,000 answers again
 pub version-three-twice : VersionThreeTwice
-unfolding stepThree moveOf onTxOpen openByLink onTick onTickAged aged longer tickRequesting tickBreaking toIdle book
+unfolding stepThree moveOf onTxOpen openByLink onTick onTickAged aged longer tickRequesting tickBreaking toIdle book meant inField waitedFor
 version-three-twice = record { none-waits = refl; again = refl; breaks = refl }

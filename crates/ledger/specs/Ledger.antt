@@ -1,14 +1,15 @@
 -- The books of one phy: at most one Open waits, and its answer, when it comes, is its own.
-use Prim.Native.Nat.{ℕ, _+_, _*_, min}
+use Prim.Native.Nat.{ℕ, _+_, _*_}
 use mathlib.Core.Bool.{Bool, _&&_}
 use mathlib.Core.List.{List, [], _∷_}
 use lib.Dec.{eqb}
 use Rattle.table.specs.Choice.{pick}
-use Rattle.event.specs.Names.{mostWait}
 use Rattle.event.specs.Table.{openOf, sameOpen}
 use Rattle.event.specs.declared.Open.{Open}
-use Rattle.phy.specs.Shapes.{noOpen}
+use Rattle.phy.specs.Shapes.{_and_, noOpen, withWait}
+use Rattle.phy.specs.declared.Waited.{Waited}
 use Rattle.phy_laws.specs.Waiting.{isAnswer}
+use Rattle.ledger.specs.Wait.{waitedFor}
 use Rattle.ledger.specs.Log.{Entry, accepted, answered, ticked, tickedInP2, heardAip}
 
 -- the ticks by which an Open is answered, if k AIPs are heard
@@ -28,17 +29,13 @@ pub data Ledger : Type 0 where
   waiting : Waiting → Ledger
   broken : Ledger
 
+-- how long it has waited: as it came, with no part of a millisecond, and then the ticks in P2
+abbrev pub waited : Waiting → Waited
+waited w = waitedFor (w .open-as-accepted .wait and 0) (w .ticks-in-P2)
+
 -- the accepted Open with its wait as it has grown
 abbrev pub grown : Waiting → Open
-grown w =
-    record {
-      destination = w .open-as-accepted .destination;
-      protocol = w .open-as-accepted .protocol;
-      rate = w .open-as-accepted .rate;
-      tag = w .open-as-accepted .tag;
-      blockedCount = w .open-as-accepted .blockedCount;
-      wait = min mostWait (w .open-as-accepted .wait + w .ticks-in-P2);
-    }
+grown w = withWait (w .open-as-accepted) (waited w .wait)
 
 -- an Open begins to wait
 abbrev pub begins : Entry → Waiting

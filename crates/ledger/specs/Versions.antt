@@ -10,7 +10,7 @@ use Rattle.event.specs.Names.{breakReceived, tick}
 use Rattle.event.specs.declared.Event.{Event}
 use Rattle.phy.specs.Names.{L0, L1, L5, P2, answerOpenTimeout, sentBreak, fullTimer}
 use Rattle.phy.specs.Shapes.{requesting, givenUp, freshPhy, reports, answers}
-use Rattle.phy.specs.Ticks.{longer}
+use Rattle.phy.specs.Ticks.{aged}
 use Rattle.phy.specs.Step.{moveOf}
 use Rattle.phy.specs.declared.Phy.{Phy}
 use Rattle.phy.specs.declared.Stepped.{Stepped}
@@ -22,7 +22,7 @@ use Rattle.ledger.specs.Demand.{plain, openToFive}
 unfoldable pub stepTwo : Phy → Event → Stepped
 stepTwo p e =
     pick (eqb (e .code) breakReceived && eqb (p .link) L1)
-    (reports (requesting (p .settings) L0 P2 0 (p .request)) 0 sentBreak) (moveOf p e)
+    (reports (requesting (p .settings) L0 P2 0 (p .request) (p .part)) 0 sentBreak) (moveOf p e)
 
 -- an Open, a BREAK, and 2,000 ticks
 abbrev pub lostToBreak : List Event
@@ -37,8 +37,8 @@ VersionTwoLate =
 unfoldable pub stepThree : Phy → Event → Stepped
 stepThree p e =
     pick (eqb (e .code) tick && eqb (p .link) L1 && leb (p .timer) 1)
-    (answers (givenUp (p .settings) L5 fullTimer (longer (p .request)) answerOpenTimeout)
-    answerOpenTimeout (longer (p .request)) 0 sentBreak)
+    (answers (givenUp (p .settings) L5 fullTimer (aged p .request) answerOpenTimeout)
+    answerOpenTimeout (aged p .request) 0 sentBreak)
     (moveOf p e)
 
 -- an Open and n ticks

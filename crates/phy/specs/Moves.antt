@@ -34,9 +34,9 @@ toIdle p sent = rows (p .port) (idleRows p sent) (reports (idle (p .settings)) 0
 -- ---- 1, Tx Open: P1 to P2; from L0 an OPEN is sent, with L2 or L6 the request waits
 abbrev pub txOpenRows : Phy → Open → List (Row Stepped)
 txOpenRows p o =
-    (L0 ⇒ reports (requesting (p .settings) L1 P2 fullTimer o) 0 sentOpen)
-    ∷ (L2 ⇒ reports (selected (p .settings) P2 o (p .inboundSource) (p .inboundProtocol)) 0 0)
-    ∷ (L6 ⇒ reports (requesting (p .settings) L6 P2 0 o) 0 0)
+    (L0 ⇒ reports (requesting (p .settings) L1 P2 fullTimer o 0) 0 sentOpen)
+    ∷ (L2 ⇒ reports (selected (p .settings) P2 o 0 (p .inboundSource) (p .inboundProtocol)) 0 0)
+    ∷ (L6 ⇒ reports (requesting (p .settings) L6 P2 0 o 0) 0 0)
     ∷ []
 
 unfoldable pub openByLink : Phy → Open → Stepped
@@ -78,8 +78,8 @@ onAccept p accept = quiet (withSettings p (record { accept = accept }))
 -- ---- 7, OPEN received: L0 or L1 to L2
 abbrev pub openRows : Phy → Event → List (Row Stepped)
 openRows p e =
-    (L0 ⇒ quiet (selected (p .settings) (p .port) (p .request) (e .first) (e .second)))
-    ∷ (L1 ⇒ quiet (selected (p .settings) (p .port) (p .request) (e .first) (e .second)))
+    (L0 ⇒ quiet (selected (p .settings) (p .port) (p .request) (p .part) (e .first) (e .second)))
+    ∷ (L1 ⇒ quiet (selected (p .settings) (p .port) (p .request) (p .part) (e .first) (e .second)))
     ∷ []
 
 unfoldable pub onOpenReceived : Phy → Event → Stepped
@@ -131,7 +131,7 @@ onAip p = rows (p .link) (aipRows p) (quiet p)
 abbrev pub breakRows : Phy → List (Row Stepped)
 breakRows p =
     (L1 ⇒ reports (givenUp (p .settings) L6 0 (p .request) answerBreakReceived) 0 sentBreak)
-    ∷ (L2 ⇒ reports (requesting (p .settings) L6 (p .port) 0 (p .request)) 0 sentBreak)
+    ∷ (L2 ⇒ reports (requesting (p .settings) L6 (p .port) 0 (p .request) (p .part)) 0 sentBreak)
     ∷ (L3 ⇒ reports (connected (p .settings) L6 0 (p .connectionProtocol) off) noticeBreakReceived sentBreak)
     ∷ (L4 ⇒ reports (connected (p .settings) L6 0 (p .connectionProtocol) off) noticeBreakReceived sentBreak)
     ∷ (L5 ⇒ toIdle p 0)

@@ -138,3 +138,11 @@ sentBreak = 5
 
 abbrev pub fullTimer : ℕ
 fullTimer = 1000
+
+-- ---- the wait counts microseconds up to here, and milliseconds from here on; the most of a part of one
+
+abbrev pub bend : ℕ
+bend = 32768
+
+abbrev pub mostPart : ℕ
+mostPart = 999

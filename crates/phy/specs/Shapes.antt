@@ -3,9 +3,15 @@ use Prim.Native.Nat.{ℕ}
 use Rattle.table.specs.Flags.{off}
 use Rattle.event.specs.declared.Open.{Open}
 use Rattle.phy.specs.Names.{L0, L2, P1, P3, P4}
+use Rattle.phy.specs.declared.Waited.{Waited}
 use Rattle.phy.specs.declared.Settings.{Settings}
 use Rattle.phy.specs.declared.Phy.{Phy}
 use Rattle.phy.specs.declared.Stepped.{Stepped}
+
+infix 70 _and_
+-- a wait and its part of a millisecond, as they are written
+abbrev pub _and_ : (wait part : ℕ) → Waited
+wait and part = record { wait = wait; part = part }
 
 -- ---- shapes: what is in use is given, all else is zero
 
@@ -13,14 +19,27 @@ use Rattle.phy.specs.declared.Stepped.{Stepped}
 abbrev pub noOpen : Open
 noOpen = record { destination = 0; protocol = 0; rate = 0; tag = 0; blockedCount = 0; wait = 0 }
 
+-- an Open with another wait
+abbrev pub withWait : Open → (wait : ℕ) → Open
+withWait o wait =
+    record {
+      destination = o .destination;
+      protocol = o .protocol;
+      rate = o .rate;
+      tag = o .tag;
+      blockedCount = o .blockedCount;
+      wait = wait;
+    }
+
 -- a request that waits, or none, with no connection and no OPEN from the far end
-abbrev pub requesting : (settings : Settings) (link port timer : ℕ) (request : Open) → Phy
-requesting settings link port timer request =
+abbrev pub requesting : (settings : Settings) (link port timer : ℕ) (request : Open) (part : ℕ) → Phy
+requesting settings link port timer request part =
     record {
       link = link;
       port = port;
       timer = timer;
       request = request;
+      part = part;
       reason = 0;
       inboundSource = 0;
       inboundProtocol = 0;
@@ -37,6 +56,7 @@ givenUp settings link timer request reason =
       port = P4;
       timer = timer;
       request = request;
+      part = 0;
       reason = reason;
       inboundSource = 0;
       inboundProtocol = 0;
@@ -47,16 +67,17 @@ givenUp settings link timer request reason =
 
 -- neither request nor connection
 abbrev pub idle : Settings → Phy
-idle settings = requesting settings L0 P1 0 noOpen
+idle settings = requesting settings L0 P1 0 noOpen 0
 
 -- an OPEN from the far end, with a request that waits or none
-abbrev pub selected : (settings : Settings) (port : ℕ) (request : Open) (source protocol : ℕ) → Phy
-selected settings port request source protocol =
+abbrev pub selected : (settings : Settings) (port : ℕ) (request : Open) (part source protocol : ℕ) → Phy
+selected settings port request part source protocol =
     record {
       link = L2;
       port = port;
       timer = 0;
       request = request;
+      part = part;
       reason = 0;
       inboundSource = source;
       inboundProtocol = protocol;
@@ -73,6 +94,7 @@ connected settings link timer protocol farClosed =
       port = P3;
       timer = timer;
       request = noOpen;
+      part = 0;
       reason = 0;
       inboundSource = 0;
       inboundProtocol = 0;
@@ -85,14 +107,15 @@ connected settings link timer protocol farClosed =
 abbrev pub freshPhy : Phy
 freshPhy = idle (record { accept = off })
 
--- the phy with this timer, request and settings, all else as it is
-abbrev pub changed : Phy → (timer : ℕ) (request : Open) (settings : Settings) → Phy
-changed p timer request settings =
+-- the phy with this timer, request, part and settings, all else as it is
+abbrev pub changed : Phy → (timer : ℕ) (request : Open) (part : ℕ) (settings : Settings) → Phy
+changed p timer request part settings =
     record {
       link = p .link;
       port = p .port;
       timer = timer;
       request = request;
+      part = part;
       reason = p .reason;
       inboundSource = p .inboundSource;
       inboundProtocol = p .inboundProtocol;
@@ -103,15 +126,15 @@ changed p timer request settings =
 
 -- with another timer alone
 abbrev pub withTimer : Phy → (timer : ℕ) → Phy
-withTimer p timer = changed p timer (p .request) (p .settings)
+withTimer p timer = changed p timer (p .request) (p .part) (p .settings)
 
--- another request
-abbrev pub withRequest : Phy → (request : Open) → Phy
-withRequest p request = changed p (p .timer) request (p .settings)
+-- another wait of its request, with its part
+abbrev pub withWaited : Phy → Waited → Phy
+withWaited p w = changed p (p .timer) (withWait (p .request) (w .wait)) (w .part) (p .settings)
 
 -- other settings
 abbrev pub withSettings : Phy → (settings : Settings) → Phy
-withSettings p settings = changed p (p .timer) (p .request) settings
+withSettings p settings = changed p (p .timer) (p .request) (p .part) settings
 
 -- ---- reports: an answer with its Open, a notice, a primitive sent; each 0 where there is none
 

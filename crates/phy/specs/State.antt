@@ -1,14 +1,14 @@
 -- Which records are valid: a test for each rule. A field in use is in its range, and one not in use is zero.
 use Prim.Native.Nat.{ℕ}
 use mathlib.Core.Bool.{Bool, _&&_, _||_}
-use lib.Dec.{eqb, leb}
+use lib.Dec.{eqb, leb, ltb}
 use Rattle.table.specs.Choice.{split}
 use Rattle.table.specs.Flags.{off, isFlag}
-use Rattle.event.specs.Names.{STP, mostAddress}
+use Rattle.event.specs.Names.{STP, mostWait, mostAddress}
 use Rattle.event.specs.Table.{openKnown, sameOpen}
 use Rattle.event.specs.declared.Open.{Open}
 use Rattle.phy.specs.Names.{L0, L1, L2, L3, L4, L5, L6, P1, P2, P3, P4, answerOpenTimeout, answerBreakReceived}
-use Rattle.phy.specs.Names.{answerPortLayerRequest, fullTimer}
+use Rattle.phy.specs.Names.{answerPortLayerRequest, fullTimer, bend, mostPart}
 use Rattle.phy.specs.Shapes.{noOpen}
 use Rattle.phy.specs.declared.Settings.{Settings}
 use Rattle.phy.specs.declared.Phy.{Phy}
@@ -33,6 +33,10 @@ isNoOpen o = sameOpen o noOpen
 -- the request is in use in P2 and P4
 unfoldable pub validRequest : (port : ℕ) (request : Open) → Bool
 validRequest port request = split (eqb port P2 || eqb port P4) (openKnown request) (isNoOpen request)
+
+-- the part of a millisecond is in use in P2, with a wait from 32,768 to 65,534: at most 999
+abbrev pub validPart : (port wait part : ℕ) → Bool
+validPart port wait part = split (eqb port P2 && leb bend wait && ltb wait mostWait) (leb part mostPart) (eqb part 0)
 
 -- the reason is in use in P4: 70 in L6, 69 or 71 in L5
 abbrev pub validReason : (link port reason : ℕ) → Bool
@@ -63,9 +67,9 @@ validSettings settings = isFlag (settings .accept)
 abbrev pub validIn : (port : ℕ) → Phy → Bool
 validIn port p =
     validPair (p .link) port && validTimer (p .link) (p .timer) && validRequest port (p .request)
-    && validReason (p .link) port (p .reason) && validInbound (p .link) (p .inboundSource) (p .inboundProtocol)
-    && validConnection port (p .connectionProtocol) && validFarClosed (p .link) (p .farClosed)
-    && validSettings (p .settings)
+    && validPart port (p .request .wait) (p .part) && validReason (p .link) port (p .reason)
+    && validInbound (p .link) (p .inboundSource) (p .inboundProtocol) && validConnection port (p .connectionProtocol)
+    && validFarClosed (p .link) (p .farClosed) && validSettings (p .settings)
 
 -- every rule holds
 unfoldable pub validOf : Phy → Bool

@@ -1,34 +1,35 @@
 -- 13, a tick: the wait rises first, then the link decides.
 use Prim.Native.Nat.{ℕ, _+_, _-_}
+use mathlib.Core.Bool.{_&&_}
 use mathlib.Core.List.{List, [], _∷_}
-use lib.Dec.{eqb, leb}
+use lib.Dec.{eqb, leb, ltb}
 use Rattle.table.specs.Choice.{pick, Row, _⇒_, rows}
 use Rattle.table.specs.Flags.{off, isOn}
 use Rattle.event.specs.Names.{mostWait}
-use Rattle.event.specs.declared.Open.{Open}
 use Rattle.phy.specs.Names.{L1, L2, L3, L4, L5, L6, P2, answerOpenedByDestination, answerOpenedByOther}
 use Rattle.phy.specs.Names.{answerOpenTimeout, noticeOpened, noticeCloseTimeout, sentOpenAccept, sentOpenReject}
-use Rattle.phy.specs.Names.{sentBreak, fullTimer}
-use Rattle.phy.specs.Shapes.{givenUp, connected, withTimer, withRequest, reports, answers, quiet}
+use Rattle.phy.specs.Names.{sentBreak, fullTimer, bend, mostPart}
+use Rattle.phy.specs.Shapes.{_and_, givenUp, connected, withTimer, withWaited, reports, answers, quiet}
 use Rattle.phy.specs.Moves.{toIdle}
+use Rattle.phy.specs.declared.Waited.{Waited}
 use Rattle.phy.specs.declared.Phy.{Phy}
 use Rattle.phy.specs.declared.Stepped.{Stepped}
 
--- the wait rises by one, up to 65,535
-unfoldable pub longer : Open → Open
-longer o =
-    record {
-      destination = o .destination;
-      protocol = o .protocol;
-      rate = o .rate;
-      tag = o .tag;
-      blockedCount = o .blockedCount;
-      wait = pick (leb mostWait (o .wait)) (o .wait) (o .wait + 1);
-    }
+-- one tick more: at 65,535 nothing rises; up to 32,768 the wait rises, and from there on the part of a millisecond, at
+-- whose thousandth the wait rises and the part begins anew
+unfoldable pub longer : Waited → Waited
+longer w =
+    pick (leb mostWait (w .wait)) w
+    (pick (leb bend (w .wait) && ltb (w .part) mostPart) (w .wait and (w .part + 1))
+    ((w .wait + 1) and 0))
+
+-- how long a phy's request has waited
+abbrev pub waitedOf : Phy → Waited
+waitedOf p = p .request .wait and p .part
 
 -- first of all, in P2, the request has waited longer
 unfoldable pub aged : Phy → Phy
-aged p = pick (eqb (p .port) P2) (withRequest p (longer (p .request))) p
+aged p = pick (eqb (p .port) P2) (withWaited p (longer (waitedOf p))) p
 
 -- a running timer falls by one; at 0 it is over
 abbrev pub counts : Phy → (over : Stepped) → Stepped

@@ -32,14 +32,22 @@ pub struct Settings {
     pub accept: u64,
 }
 
-// Numbers of any size may stand here: `valid` tells which records are states. Who opens us, and by which
-// protocol, is kept in L2; `farClosed` is a flag, that the far end has closed.
+// How long a request has waited: its wait, and from 32,768 on the part of a millisecond since that rose.
+pub struct Waited {
+    pub wait: u64,
+    pub part: u64,
+}
+
+// Numbers of any size may stand here: `valid` tells which records are states. The part of a millisecond
+// that the request has waited beyond its wait is kept in P2. Who opens us, and by which protocol, is kept
+// in L2; `farClosed` is a flag, that the far end has closed.
 #[repr(C)]
 pub struct Phy {
     pub link: u64,
     pub port: u64,
     pub timer: u64,
     pub request: Open,
+    pub part: u64,
     pub reason: u64,
     pub inboundSource: u64,
     pub inboundProtocol: u64,

@@ -35,13 +35,13 @@ fn open_by_link(p: Phy, o: Open) -> Stepped
     let link = p.link;
     let settings = p.settings;
     match link {
-        L0 => reports(requesting(settings, L1, P2, FULL_TIMER, o), 0, SENT_OPEN),
+        L0 => reports(requesting(settings, L1, P2, FULL_TIMER, o, 0), 0, SENT_OPEN),
         L2 => reports(
-            selected(settings, P2, o, p.inboundSource, p.inboundProtocol),
+            selected(settings, P2, o, 0, p.inboundSource, p.inboundProtocol),
             0,
             0,
         ),
-        L6 => reports(requesting(settings, L6, P2, 0, o), 0, 0),
+        L6 => reports(requesting(settings, L6, P2, 0, o, 0), 0, 0),
         _ => quiet(p),
     }
 }
@@ -124,8 +124,8 @@ pub(crate) fn on_open_received(p: Phy, e: Event) -> Stepped
     let settings = p.settings;
     let request = p.request;
     match link {
-        L0 => quiet(selected(settings, p.port, request, e.first, e.second)),
-        L1 => quiet(selected(settings, p.port, request, e.first, e.second)),
+        L0 => quiet(selected(settings, p.port, request, p.part, e.first, e.second)),
+        L1 => quiet(selected(settings, p.port, request, p.part, e.first, e.second)),
         _ => quiet(p),
     }
 }
@@ -201,7 +201,11 @@ pub(crate) fn on_break(p: Phy) -> Stepped
             0,
             SENT_BREAK,
         ),
-        L2 => reports(requesting(settings, L6, p.port, 0, request), 0, SENT_BREAK),
+        L2 => reports(
+            requesting(settings, L6, p.port, 0, request, p.part),
+            0,
+            SENT_BREAK,
+        ),
         L3 => reports(
             connected(settings, L6, 0, p.connectionProtocol, OFF),
             NOTICE_BREAK_RECEIVED,

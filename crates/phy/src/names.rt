@@ -87,3 +87,8 @@ pub const SENT_BREAK: u64 = 5;
 
 // Limits.
 pub const FULL_TIMER: u64 = 1000;
+
+// The wait counts microseconds up to here, and milliseconds from here on.
+pub const BEND: u64 = 32768;
+
+pub const MOST_PART: u64 = 999;

@@ -1,11 +1,12 @@
 // The words in which moves are written: shapes of a phy, where what is in use is given and all else is
 // zero, and what a step reports with it.
 ghost use mathlib.Core.Path.{_≡_};
-ghost use Rattle.phy.specs.Shapes.{requesting as Shapes·requesting, givenUp, idle as Shapes·idle, selected as Shapes·selected, connected as Shapes·connected, withTimer, withRequest, withSettings, reports as Shapes·reports, answers as Shapes·answers, quiet as Shapes·quiet, refused as Shapes·refused};
+ghost use Rattle.phy.specs.Shapes.{requesting as Shapes·requesting, givenUp, idle as Shapes·idle, selected as Shapes·selected, connected as Shapes·connected, withTimer, withWaited, withSettings, reports as Shapes·reports, answers as Shapes·answers, quiet as Shapes·quiet, refused as Shapes·refused};
 ghost use Rattle.phy.specs.Contracts.{StartsFresh};
 use crate::Phy;
 use crate::Settings;
 use crate::Stepped;
+use crate::Waited;
 use crate::names::L0;
 use crate::names::L2;
 use crate::names::P1;
@@ -24,8 +25,15 @@ const NO_OPEN: Open = Open {
 };
 
 // A request that waits, or none, with no connection and no OPEN from the far end.
-pub(crate) fn requesting(settings: Settings, link: u64, port: u64, timer: u64, request: Open) -> Phy
-    ensures { λ r. ⌜ r ≡ Shapes·requesting settings link port timer request ⌝ }
+pub(crate) fn requesting(
+    settings: Settings,
+    link: u64,
+    port: u64,
+    timer: u64,
+    request: Open,
+    part: u64,
+) -> Phy
+    ensures { λ r. ⌜ r ≡ Shapes·requesting settings link port timer request part ⌝ }
 {
     let mut next = FRESH;
     next.settings = settings;
@@ -33,6 +41,7 @@ pub(crate) fn requesting(settings: Settings, link: u64, port: u64, timer: u64, r
     next.port = port;
     next.timer = timer;
     next.request = request;
+    next.part = part;
     next
 }
 
@@ -63,16 +72,18 @@ pub(crate) fn selected(
     settings: Settings,
     port: u64,
     request: Open,
+    part: u64,
     source: u64,
     protocol: u64,
 ) -> Phy
-    ensures { λ r. ⌜ r ≡ Shapes·selected settings port request source protocol ⌝ }
+    ensures { λ r. ⌜ r ≡ Shapes·selected settings port request part source protocol ⌝ }
 {
     let mut next = FRESH;
     next.settings = settings;
     next.link = L2;
     next.port = port;
     next.request = request;
+    next.part = part;
     next.inboundSource = source;
     next.inboundProtocol = protocol;
     next
@@ -102,6 +113,7 @@ pub const FRESH: Phy = Phy {
     port: P1,
     timer: 0,
     request: NO_OPEN,
+    part: 0,
     reason: 0,
     inboundSource: 0,
     inboundProtocol: 0,
@@ -124,11 +136,12 @@ pub(crate) fn with_timer(p: Phy, timer: u64) -> Phy
     next
 }
 
-pub(crate) fn with_request(p: Phy, request: Open) -> Phy
-    ensures { λ r. ⌜ r ≡ withRequest p request ⌝ }
+pub(crate) fn with_waited(p: Phy, w: Waited) -> Phy
+    ensures { λ r. ⌜ r ≡ withWaited p w ⌝ }
 {
     let mut next = p;
-    next.request = request;
+    next.request.wait = w.wait;
+    next.part = w.part;
     next
 }
 

@@ -3,11 +3,12 @@ ghost use mathlib.Core.Path.{_≡_};
 ghost use mathlib.Core.Bool.{_&&_};
 ghost use lib.Dec.{eqb, leb};
 ghost use Rattle.phy.specs.Names.{P1 as Names·P1, P2 as Names·P2, P3 as Names·P3, P4 as Names·P4, fullTimer};
-ghost use Rattle.phy.specs.State.{isNoOpen, validSettings, validIn};
+ghost use Rattle.phy.specs.State.{isNoOpen, validPart, validSettings, validIn};
 ghost use Rattle.phy.specs.Contracts.{TellsValid};
 use crate::Phy;
 use crate::Settings;
 use crate::names::*;
+use event::MOST_WAIT;
 use event::Open;
 use event::STP;
 use event::open_known;
@@ -33,6 +34,14 @@ fn runs(timer: u64) -> bool
     (1 <= timer) & (timer <= FULL_TIMER)
 }
 
+// The part of a millisecond in P2: in use from the bend on, until the wait is at its most.
+fn valid_part(wait: u64, part: u64) -> bool
+    ensures { λ r. ⌜ r ≡ validPart Names·P2 wait part ⌝ }
+{
+    let counts = (BEND <= wait) & (wait < MOST_WAIT);
+    (counts & (part <= MOST_PART)) | (!counts & (part == 0))
+}
+
 // Neither a source nor an inbound protocol is kept.
 fn nobody(p: Phy) -> bool
     ensures { λ r. ⌜ r ≡ (eqb (p .inboundSource) 0 && eqb (p .inboundProtocol) 0) ⌝ }
@@ -55,7 +64,7 @@ fn valid_idle(p: Phy) -> bool
     let link = p.link;
     let request = p.request;
     let set = valid_settings(p.settings);
-    let unused = (p.timer == 0) & is_no_open(request) & (p.reason == 0);
+    let unused = (p.timer == 0) & is_no_open(request) & (p.part == 0) & (p.reason == 0);
     let unlinked = p.connectionProtocol == 0;
     let unclosed = p.farClosed == OFF;
     match link {
@@ -74,19 +83,21 @@ fn valid_requesting(p: Phy) -> bool
     let timer = p.timer;
     let set = valid_settings(p.settings);
     let asked = open_known(request);
+    let counted = valid_part(request.wait, p.part);
     let no_reason = p.reason == 0;
     let unlinked = p.connectionProtocol == 0;
     let unclosed = p.farClosed == OFF;
     match link {
-        L1 => runs(timer) & asked & no_reason & nobody(p) & unlinked & unclosed & set,
+        L1 => runs(timer) & asked & counted & no_reason & nobody(p) & unlinked & unclosed & set,
         L2 => (timer == 0)
             & asked
+            & counted
             & no_reason
             & (p.inboundProtocol <= STP)
             & unlinked
             & unclosed
             & set,
-        L6 => (timer == 0) & asked & no_reason & nobody(p) & unlinked & unclosed & set,
+        L6 => (timer == 0) & asked & counted & no_reason & nobody(p) & unlinked & unclosed & set,
         _ => false,
     }
 }
@@ -99,14 +110,22 @@ fn valid_connected(p: Phy) -> bool
     let timer = p.timer;
     let set = valid_settings(p.settings);
     let unused = is_no_open(request);
+    let no_part = p.part == 0;
     let no_reason = p.reason == 0;
     let linked = p.connectionProtocol <= STP;
     let unclosed = p.farClosed == OFF;
     match link {
-        L3 => (timer == 0) & unused & no_reason & nobody(p) & linked & (p.farClosed <= ON) & set,
-        L4 => runs(timer) & unused & no_reason & nobody(p) & linked & unclosed & set,
-        L5 => runs(timer) & unused & no_reason & nobody(p) & linked & unclosed & set,
-        L6 => (timer == 0) & unused & no_reason & nobody(p) & linked & unclosed & set,
+        L3 => (timer == 0)
+            & unused
+            & no_part
+            & no_reason
+            & nobody(p)
+            & linked
+            & (p.farClosed <= ON)
+            & set,
+        L4 => runs(timer) & unused & no_part & no_reason & nobody(p) & linked & unclosed & set,
+        L5 => runs(timer) & unused & no_part & no_reason & nobody(p) & linked & unclosed & set,
+        L6 => (timer == 0) & unused & no_part & no_reason & nobody(p) & linked & unclosed & set,
         _ => false,
     }
 }
@@ -120,13 +139,14 @@ fn valid_closing(p: Phy) -> bool
     let reason = p.reason;
     let set = valid_settings(p.settings);
     let asked = open_known(request);
+    let no_part = p.part == 0;
     let given_up = (reason == ANSWER_OPEN_TIMEOUT) | (reason == ANSWER_PORT_LAYER_REQUEST);
     let broken = reason == ANSWER_BREAK_RECEIVED;
     let unlinked = p.connectionProtocol == 0;
     let unclosed = p.farClosed == OFF;
     match link {
-        L5 => runs(timer) & asked & given_up & nobody(p) & unlinked & unclosed & set,
-        L6 => (timer == 0) & asked & broken & nobody(p) & unlinked & unclosed & set,
+        L5 => runs(timer) & asked & no_part & given_up & nobody(p) & unlinked & unclosed & set,
+        L6 => (timer == 0) & asked & no_part & broken & nobody(p) & unlinked & unclosed & set,
         _ => false,
     }
 }

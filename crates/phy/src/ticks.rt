@@ -5,23 +5,31 @@ ghost use Rattle.phy.specs.Shapes.{quiet as Shapes·quiet, withTimer};
 ghost use Rattle.phy.specs.Ticks.{longer as Ticks·longer, tickRequesting, tickClosing, tickBreaking, openedBy, accepted as Ticks·accepted, tickSelected, onTickAged, onTick};
 use crate::Phy;
 use crate::Stepped;
+use crate::Waited;
 use crate::moves::to_idle;
 use crate::names::*;
 use crate::shapes::*;
 use event::MOST_WAIT;
-use event::Open;
 use table::OFF;
 use table::ON;
 
-fn longer(o: Open) -> Open
-    ensures { λ r. ⌜ r ≡ Ticks·longer o ⌝ }
+// The part begins anew at its thousandth tick, and a wait that reaches the bend or the most has none.
+fn longer(w: Waited) -> Waited
+    ensures { λ r. ⌜ r ≡ Ticks·longer w ⌝ }
 {
-    if MOST_WAIT <= o.wait {
-        return o;
+    if MOST_WAIT <= w.wait {
+        return w;
     }
-    let mut next = o;
-    next.wait = o.wait + 1;
-    next
+    if (BEND <= w.wait) & (w.part < MOST_PART) {
+        return Waited {
+            wait: w.wait,
+            part: w.part + 1,
+        };
+    }
+    Waited {
+        wait: w.wait + 1,
+        part: 0,
+    }
 }
 
 // A running timer falls by one.
@@ -132,8 +140,13 @@ fn on_tick_aged(p: Phy) -> Stepped
 pub(crate) fn on_tick(p: Phy) -> Stepped
     ensures { λ r. ⌜ r ≡ onTick p ⌝ }
 {
+    let request = p.request;
     if p.port == P2 {
-        return on_tick_aged(with_request(p, longer(p.request)));
+        let waited = Waited {
+            wait: request.wait,
+            part: p.part,
+        };
+        return on_tick_aged(with_waited(p, longer(waited)));
     }
     on_tick_aged(p)
 }

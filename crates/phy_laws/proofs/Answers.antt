@@ -1,6 +1,6 @@
 -- An answer comes where a request waits and then waits no more: by the four kinds of a step.
 use Prim.Native.Nat.{ℕ}
-use mathlib.Core.Bool.{true, false, _&&_, false≢true}
+use mathlib.Core.Bool.{true, false, false≢true}
 use mathlib.Core.Logic.{_↔_, _⊎_, inl, inr}
 use mathlib.Core.Path.{_≡_, refl, sym, subst}
 use lib.Dec.{eqb}
@@ -12,6 +12,7 @@ use Rattle.event.specs.declared.Open.{Open}
 use Rattle.phy.specs.Names.{P1, P2, P3}
 use Rattle.phy.specs.Shapes.{noOpen}
 use Rattle.phy.specs.State.{validOf}
+use Rattle.phy.specs.Ticks.{aged}
 use Rattle.phy.specs.Step.{moveOf}
 use Rattle.phy.specs.declared.Phy.{Phy}
 use Rattle.phy.specs.declared.Stepped.{Stepped}
@@ -72,7 +73,7 @@ unfolding openKnown argumentsKnown argumentRange
 known-not-none o k n = false≢true (subst (λ (x : Open). openKnown x ≡ true) n k)
 
 -- a request that waits is known, and stays so as it waits
-request-known : (p : Phy) → validOf p ≡ true → waits (p .port) ≡ true → openKnown (p .request) ≡ true
+pub request-known : (p : Phy) → validOf p ≡ true → waits (p .port) ≡ true → openKnown (p .request) ≡ true
 request-known =
     by-shape (λ p. waits (p .port) ≡ true → openKnown (p .request) ≡ true)
     (λ f v w. absurd (false≢true w)) (λ f v w. absurd (false≢true w)) (λ f v w. absurd (false≢true w))
@@ -80,11 +81,12 @@ request-known =
     (λ f v w. absurd (false≢true w)) (λ f v w. absurd (false≢true w)) (λ f v w. absurd (false≢true w)) (λ f v w. absurd (false≢true w))
     (λ f v w. asked refl v) (λ f v w. asked refl v)
 
-heard-known : (p : Phy) (e : Event) → validOf p ≡ true → waits (p .port) ≡ true → openKnown (heard p e) ≡ true
-unfolding heard
+heard-known : (p : Phy) (e : Event) → validOf p ≡ true → waits (p .port) ≡ true → openKnown (heard p e .request) ≡ true
+unfolding heard aged
 heard-known p e v w =
-    by-pick (λ o. openKnown o ≡ true) (eqb (e .code) tick && eqb (p .port) P2)
-    (λ _. longer-known (p .request) (request-known p v w))
+    let P : Phy → Type 0 = λ q. openKnown (q .request) ≡ true in
+    by-pick P (eqb (e .code) tick)
+    (λ _. by-pick P (eqb (p .port) P2) (λ _. longer-known (p .request) (p .part) (request-known p v w)) (λ _. request-known p v w))
     (λ _. request-known p v w)
 
 arguments : (p : Phy) (e : Event) (r : Stepped) → validOf p ≡ true → Stepping p e r → r .answered ≡ noOpen ↔ (r .answer ≡ 0)

@@ -11,10 +11,10 @@ use Rattle.event.specs.Names.{STP, SMP, txOpen, tick, phyDisabled, mostAddress,
 use Rattle.event.specs.Table.{argumentRange, argumentsKnown, codeKnown, knownOf, openOf, openKnown}
 use Rattle.event.specs.declared.Event.{Event}
 use Rattle.phy.specs.Names.{fullTimer, answerOpenTimeout, answerBreakReceived, answerPortLayerRequest}
-use Rattle.phy.specs.Shapes.{withTimer, withRequest}
+use Rattle.phy.specs.Shapes.{withWait, withTimer, withWaited}
 use Rattle.phy.specs.State.{isNoOpen, validRequest, validOf}
 use Rattle.phy.specs.Moves.{toIdle, openByLink, onTxOpen, onCancelOpen, onCloseConnection, onSmpTransmitBreak, onAccept, onOpenReceived, onOpenAccept, rejectAnswer, onOpenReject, onAip, onBreak, onClose, onReset}
-use Rattle.phy.specs.Ticks.{longer, aged, tickRequesting, tickClosing, tickBreaking, openedBy, accepted, tickSelected, onTickAged, onTick}
+use Rattle.phy.specs.Ticks.{longer, waitedOf, aged, tickRequesting, tickClosing, tickBreaking, openedBy, accepted, tickSelected, onTickAged, onTick}
 use Rattle.phy.specs.Step.{moveOf}
 use Rattle.phy.specs.declared.Settings.{Settings}
 use Rattle.phy.specs.declared.Phy.{Phy}
@@ -22,8 +22,8 @@ use Rattle.phy_laws.specs.Waiting.{waits, isAnswer}
 use Rattle.phy_laws.proofs.Counting.{heard, left}
 use Rattle.phy_laws.proofs.Tests.{either, at-number, in-range, in-use}
 use Rattle.phy_laws.proofs.Shapes.{Fields, phyOf, Facts, by-shape}
-use Rattle.phy_laws.proofs.OneStep.{setsFlag, Stepping, valid-of, settings-valid, still, in-ranges, open-known, protocol-known, longer-known, timed, at-least-one, timed-down}
-use Rattle.phy_laws.proofs.InUse.{asked, runs, inbounds, linked, no-request}
+use Rattle.phy_laws.proofs.OneStep.{setsFlag, Stepping, valid-of, settings-valid, still, in-ranges, open-known, protocol-known, longer-known, no-part, longer-counts, timed, at-least-one, timed-down}
+use Rattle.phy_laws.proofs.InUse.{asked, runs, inbounds, linked, no-request, no-part-kept}
 use Rattle.phy_laws.proofs.Reached.{idle-valid, requesting-valid, waiting-valid, breaking-valid, broken-valid, giving-up-valid, selected-valid, selected-waiting-valid, connected-valid, closing-valid, cutting-valid, cut-valid, counted-valid}
 
 -- an event of a code
@@ -48,11 +48,12 @@ unfolding onTxOpen openByLink left
 on-tx-open a b c d g h k =
     let e = event 1 a b c d g h in
     let o : openKnown (openOf e) ≡ true = open-known e k refl in
+    let n = no-part 2 h in
     let q = still e 3 refl refl (omega arith) in
     by-shape (λ p. Stepping p e (onTxOpen p e))
-    (λ f v. record { valid = requesting-valid (f .settings) (v .settings) fullTimer (openOf e) refl o; tally = record { silent = refl; none = refl; opens = refl; request = refl; soon = omega arith }; flag = refl; reports = refl })
-    (λ f v. record { valid = selected-waiting-valid (f .settings) (v .settings) (openOf e) (f .inboundSource) (f .inboundProtocol) o (inbounds v .0) (inbounds v .1); tally = record { silent = refl; none = refl; opens = refl; request = refl; soon = omega arith }; flag = refl; reports = refl })
-    (λ f v. record { valid = waiting-valid (f .settings) (v .settings) (openOf e) o; tally = record { silent = refl; none = refl; opens = refl; request = refl; soon = omega arith }; flag = refl; reports = refl })
+    (λ f v. record { valid = requesting-valid (f .settings) (v .settings) fullTimer (openOf e) 0 refl o n; tally = record { silent = refl; none = refl; opens = refl; request = refl; part = refl; soon = omega arith }; flag = refl; reports = refl })
+    (λ f v. record { valid = selected-waiting-valid (f .settings) (v .settings) (openOf e) 0 (f .inboundSource) (f .inboundProtocol) o n (inbounds v .0) (inbounds v .1); tally = record { silent = refl; none = refl; opens = refl; request = refl; part = refl; soon = omega arith }; flag = refl; reports = refl })
+    (λ f v. record { valid = waiting-valid (f .settings) (v .settings) (openOf e) 0 o n; tally = record { silent = refl; none = refl; opens = refl; request = refl; part = refl; soon = omega arith }; flag = refl; reports = refl })
     (q 1 2 refl) (q 2 2 refl) (q 6 2 refl) (q 3 3 refl) (q 4 3 refl) (q 5 3 refl) (q 6 3 refl) (q 5 4 refl) (q 6 4 refl)
 
 -- ---- 2, Cancel Open: in L1 the request is given up, and waits for the link to be idle
@@ -64,7 +65,7 @@ on-cancel-open a b c d g h =
     let n = still e 4 refl refl (omega arith) in
     by-shape (λ p. Stepping p e (onCancelOpen p))
     (n 0 1 refl) (n 2 1 refl) (n 6 1 refl)
-    (λ f v. record { valid = giving-up-valid (f .settings) (v .settings) (f .request) answerPortLayerRequest (asked refl v) refl; tally = record { silent = refl; none = refl; opens = refl; request = refl; falls = omega arith }; flag = refl; reports = refl })
+    (λ f v. record { valid = giving-up-valid (f .settings) (v .settings) (f .request) answerPortLayerRequest (asked refl v) refl; tally = record { silent = refl; none = refl; opens = refl; request = refl; part = λ q. absurd (omega arith); falls = omega arith }; flag = refl; reports = refl })
     (q 2 2 refl) (q 6 2 refl) (n 3 3 refl) (n 4 3 refl) (n 5 3 refl) (n 6 3 refl) (n 5 4 refl) (n 6 4 refl)
 
 -- ---- 3, Close Connection
@@ -101,9 +102,9 @@ on-open-received a b c d g h k =
     let w = source-known a b c d g h k in
     let q = still e 0 refl refl (omega arith) in
     by-shape (λ p. Stepping p e (onOpenReceived p e))
-    (λ f v. record { valid = rw (no-request v) (selected-valid (f .settings) (v .settings) a b (w .0) (w .1)); tally = record { silent = refl; none = refl; opens = refl }; flag = refl; reports = refl })
+    (λ f v. record { valid = rw (no-request v, no-part-kept v) (selected-valid (f .settings) (v .settings) a b (w .0) (w .1)); tally = record { silent = refl; none = refl; opens = refl }; flag = refl; reports = refl })
     (q 2 1 refl) (q 6 1 refl)
-    (λ f v. record { valid = selected-waiting-valid (f .settings) (v .settings) (f .request) a b (asked refl v) (w .0) (w .1); tally = record { silent = refl; none = refl; opens = refl; request = refl; falls = omega arith }; flag = refl; reports = refl })
+    (λ f v. record { valid = selected-waiting-valid (f .settings) (v .settings) (f .request) (f .part) a b (asked refl v) (v .part) (w .0) (w .1); tally = record { silent = refl; none = refl; opens = refl; request = refl; part = λ _. (refl, refl); falls = omega arith }; flag = refl; reports = refl })
     (q 2 2 refl) (q 6 2 refl) (q 3 3 refl) (q 4 3 refl) (q 5 3 refl) (q 6 3 refl) (q 5 4 refl) (q 6 4 refl)
 
 -- ---- 8, OPEN_ACCEPT: in L1 the request is answered
@@ -125,7 +126,7 @@ on-accept code a b c d g h flag good other opens sets p v =
       valid = settings-valid p (record { accept = flag }) good v;
       tally =
           by-test (waits (p .port))
-          (λ t. rw t (record { silent = refl; none = refl; opens = rw opens; request = rw other; falls = rw other (omega arith) }))
+          (λ t. rw t (record { silent = refl; none = refl; opens = rw opens; request = rw other; part = λ q. (q, rw other); falls = rw other (omega arith) }))
           (λ f. rw f (record { silent = refl; none = refl; opens = rw opens }));
       flag = rw sets tt;
       reports = refl;
@@ -175,7 +176,7 @@ on-aip a b c d g h =
     let q = still e 0 refl refl (omega arith) in
     by-shape (λ p. Stepping p e (onAip p))
     (q 0 1 refl) (q 2 1 refl) (q 6 1 refl)
-    (λ f v. record { valid = counted-valid 1 2 f fullTimer refl refl v; tally = record { silent = refl; none = refl; opens = refl; request = refl; falls = omega (arith, at-least-one (f .timer) (runs refl v)) }; flag = refl; reports = refl })
+    (λ f v. record { valid = counted-valid 1 2 f fullTimer refl refl v; tally = record { silent = refl; none = refl; opens = refl; request = refl; part = λ _. (refl, refl); falls = omega (arith, at-least-one (f .timer) (runs refl v)) }; flag = refl; reports = refl })
     (q 2 2 refl) (q 6 2 refl) (q 3 3 refl) (q 4 3 refl) (q 5 3 refl) (q 6 3 refl) (q 5 4 refl) (q 6 4 refl)
 
 -- ---- 11, BREAK
@@ -186,10 +187,10 @@ on-break a b c d g h =
     let q = still e 0 refl refl (omega arith) in
     by-shape (λ p. Stepping p e (onBreak p))
     (q 0 1 refl)
-    (λ f v. record { valid = rw (no-request v) (breaking-valid (f .settings) (v .settings)); tally = record { silent = refl; none = refl; opens = refl }; flag = refl; reports = refl })
+    (λ f v. record { valid = rw (no-request v, no-part-kept v) (breaking-valid (f .settings) (v .settings)); tally = record { silent = refl; none = refl; opens = refl }; flag = refl; reports = refl })
     (q 6 1 refl)
-    (λ f v. record { valid = broken-valid (f .settings) (v .settings) (f .request) (asked refl v); tally = record { silent = refl; none = refl; opens = refl; request = refl; falls = omega arith }; flag = refl; reports = refl })
-    (λ f v. record { valid = waiting-valid (f .settings) (v .settings) (f .request) (asked refl v); tally = record { silent = refl; none = refl; opens = refl; request = refl; falls = omega arith }; flag = refl; reports = refl })
+    (λ f v. record { valid = broken-valid (f .settings) (v .settings) (f .request) (asked refl v); tally = record { silent = refl; none = refl; opens = refl; request = refl; part = λ q. absurd (omega arith); falls = omega arith }; flag = refl; reports = refl })
+    (λ f v. record { valid = waiting-valid (f .settings) (v .settings) (f .request) (f .part) (asked refl v) (v .part); tally = record { silent = refl; none = refl; opens = refl; request = refl; part = λ _. (refl, refl); falls = omega arith }; flag = refl; reports = refl })
     (q 6 2 refl)
     (λ f v. record { valid = cut-valid (f .settings) (v .settings) (f .connectionProtocol) (linked v); tally = record { silent = refl; none = refl; opens = refl }; flag = refl; reports = refl })
     (λ f v. record { valid = cut-valid (f .settings) (v .settings) (f .connectionProtocol) (linked v); tally = record { silent = refl; none = refl; opens = refl }; flag = refl; reports = refl })
@@ -235,12 +236,14 @@ falling : (t : ℕ) → timed t ≡ true → leb t 1 ≡ false → timed (t - 1)
 falling t h f = rw (timed-down t h f)
 
 -- the same phy in L1 with its request grown and its timer one less
-waited-valid : (f : Fields) (t : ℕ) → timed t ≡ true → Facts 1 2 f → validOf (withTimer (withRequest (phyOf 1 2 f) (longer (f .request))) t) ≡ true
+waited-valid : (f : Fields) (t : ℕ) → timed t ≡ true → Facts 1 2 f → validOf (withTimer (withWaited (phyOf 1 2 f) (longer (waitedOf (phyOf 1 2 f)))) t) ≡ true
 unfolding validRequest
 waited-valid f t ht v =
+    let w = longer (waitedOf (phyOf 1 2 f)) in
+    let o = withWait (f .request) (w .wait) in
     valid-of 1 2
-    (record { timer = t; request = longer (f .request); reason = f .reason; inboundSource = f .inboundSource; inboundProtocol = f .inboundProtocol; connectionProtocol = f .connectionProtocol; farClosed = f .farClosed; settings = f .settings })
-    refl (record { timer = in-use (timed t) (eqb t 0) ht; request = in-use (openKnown (longer (f .request))) (isNoOpen (longer (f .request))) (longer-known (f .request) (asked refl v)); reason = v .reason; inboundProtocol = v .inboundProtocol; connectionProtocol = v .connectionProtocol; farClosed = v .farClosed; settings = v .settings })
+    (record { timer = t; request = o; part = w .part; reason = f .reason; inboundSource = f .inboundSource; inboundProtocol = f .inboundProtocol; connectionProtocol = f .connectionProtocol; farClosed = f .farClosed; settings = f .settings })
+    refl (record { timer = in-use (timed t) (eqb t 0) ht; request = in-use (openKnown o) (isNoOpen o) (longer-known (f .request) (f .part) (asked refl v)); part = longer-counts (waitedOf (phyOf 1 2 f)) (v .part); reason = v .reason; inboundProtocol = v .inboundProtocol; connectionProtocol = v .connectionProtocol; farClosed = v .farClosed; settings = v .settings })
 
 -- in L1 the request has waited longer, and the timer runs on or is over
 tick-requesting : (a b c d g h : ℕ) (f : Fields) → Facts 1 2 f → Stepping (phyOf 1 2 f) (event 13 a b c d g h) (onTick (phyOf 1 2 f))
@@ -248,8 +251,8 @@ unfolding onTick onTickAged aged tickRequesting heard left
 tick-requesting a b c d g h f v =
     let t = runs refl v in
     by-pick (Stepping (phyOf 1 2 f) (event 13 a b c d g h)) (leb (f .timer) 1)
-    (λ o. record { valid = giving-up-valid (f .settings) (v .settings) (longer (f .request)) answerOpenTimeout (longer-known (f .request) (asked refl v)) refl; tally = record { silent = refl; none = refl; opens = refl; request = refl; falls = omega (arith, at-least-one (f .timer) t) }; flag = refl; reports = refl })
-    (λ u. record { valid = waited-valid f (f .timer - 1) (timed-down (f .timer) t u) v; tally = record { silent = refl; none = refl; opens = refl; request = refl; falls = omega (arith, at-least-one (f .timer) t) }; flag = refl; reports = refl })
+    (λ o. record { valid = giving-up-valid (f .settings) (v .settings) (withWait (f .request) (longer (waitedOf (phyOf 1 2 f)) .wait)) answerOpenTimeout (longer-known (f .request) (f .part) (asked refl v)) refl; tally = record { silent = refl; none = refl; opens = refl; request = refl; part = λ q. absurd (omega arith); falls = omega (arith, at-least-one (f .timer) t) }; flag = refl; reports = refl })
+    (λ u. record { valid = waited-valid f (f .timer - 1) (timed-down (f .timer) t u) v; tally = record { silent = refl; none = refl; opens = refl; request = refl; part = λ _. (refl, refl); falls = omega (arith, at-least-one (f .timer) t) }; flag = refl; reports = refl })
 
 on-tick : (a b c d g h : ℕ) (p : Phy) → validOf p ≡ true → Stepping p (event 13 a b c d g h) (onTick p)
 unfolding onTick onTickAged aged tickClosing tickBreaking tickSelected accepted toIdle heard left
@@ -264,7 +267,7 @@ on-tick a b c d g h =
     (λ f v. record { valid = idle-valid (f .settings) (v .settings); tally = record { silent = refl; none = refl; opens = refl }; flag = refl; reports = refl })
     (λ f v. tick-requesting a b c d g h f v)
     (λ f v. by-pick (Stepping (phyOf 2 2 f) e) (isOn (f .settings .accept))
-    (λ _. record { valid = connected-valid (f .settings) (v .settings) (f .inboundProtocol) off refl (inbounds v .1); tally = record { code = opener (f .inboundSource) (longer (f .request) .destination); carries = refl; opens = refl }; flag = refl; reports = refl })
+    (λ _. record { valid = connected-valid (f .settings) (v .settings) (f .inboundProtocol) off refl (inbounds v .1); tally = record { code = opener (f .inboundSource) (f .request .destination); carries = refl; opens = refl }; flag = refl; reports = refl })
     (λ _. record { valid = idle-valid (f .settings) (v .settings); tally = record { code = refl; carries = refl; opens = refl }; flag = refl; reports = refl }))
     (λ f v. record { valid = idle-valid (f .settings) (v .settings); tally = record { code = refl; carries = refl; opens = refl }; flag = refl; reports = refl })
     (λ f v. record { valid = valid-of 3 3 f refl v; tally = record { silent = refl; none = refl; opens = refl }; flag = refl; reports = refl })
@@ -277,7 +280,7 @@ on-tick a b c d g h =
     (λ f v. record { valid = idle-valid (f .settings) (v .settings); tally = record { silent = refl; none = refl; opens = refl }; flag = refl; reports = refl })
     (λ f v. by-pick (Stepping (phyOf 5 4 f) e) (leb (f .timer) 1)
     (λ _. record { valid = idle-valid (f .settings) (v .settings); tally = record { code = reason5 v; carries = refl; opens = refl }; flag = refl; reports = refl })
-    (λ u. record { valid = counted-valid 5 4 f (f .timer - 1) refl (falling (f .timer) (runs refl v) u) v; tally = record { silent = refl; none = refl; opens = refl; request = refl; falls = omega (arith, at-least-one (f .timer) (runs refl v)) }; flag = refl; reports = refl }))
+    (λ u. record { valid = counted-valid 5 4 f (f .timer - 1) refl (falling (f .timer) (runs refl v) u) v; tally = record { silent = refl; none = refl; opens = refl; request = refl; part = λ q. absurd (omega arith); falls = omega (arith, at-least-one (f .timer) (runs refl v)) }; flag = refl; reports = refl }))
     (λ f v. record { valid = idle-valid (f .settings) (v .settings); tally = record { code = reason6 v; carries = refl; opens = refl }; flag = refl; reports = refl })
 
 -- ---- any known event

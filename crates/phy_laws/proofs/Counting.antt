@@ -6,9 +6,8 @@ use lib.Dec.{eqb}
 use Rattle.table.specs.Choice.{pick, _⇒_, rows}
 use Rattle.event.specs.Names.{txOpen, aipReceived, tick}
 use Rattle.event.specs.declared.Event.{Event}
-use Rattle.event.specs.declared.Open.{Open}
-use Rattle.phy.specs.Names.{L1, L5, P2, fullTimer}
-use Rattle.phy.specs.Ticks.{longer}
+use Rattle.phy.specs.Names.{L1, L5, fullTimer}
+use Rattle.phy.specs.Ticks.{aged}
 use Rattle.phy.specs.declared.Phy.{Phy}
 use Rattle.phy.specs.declared.Stepped.{Stepped}
 
@@ -16,9 +15,9 @@ use Rattle.phy.specs.declared.Stepped.{Stepped}
 abbrev pub accepts : Event → Stepped → Bool
 accepts e r = eqb (e .code) txOpen && eqb (r .refusal) 0
 
--- the request once an event has come: a tick in P2 lets it wait longer
-unfoldable pub heard : Phy → Event → Open
-heard p e = pick (eqb (e .code) tick && eqb (p .port) P2) (longer (p .request)) (p .request)
+-- the phy once an event has come: a tick in P2 lets its request wait longer
+unfoldable pub heard : Phy → Event → Phy
+heard p e = pick (eqb (e .code) tick) (aged p) p
 
 -- an event's own tick, and its own AIP
 abbrev pub ticksOf : Event → ℕ

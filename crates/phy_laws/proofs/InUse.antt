@@ -49,7 +49,10 @@ inbounds {f = f} h =
 pub linked : {link : ℕ} {f : Fields} → Facts link 3 f → leb (f .connectionProtocol) STP ≡ true
 linked {f = f} h = in-range (leb (f .connectionProtocol) STP) (eqb (f .connectionProtocol) 0) (h .connectionProtocol)
 
--- in P1 no request is kept
+-- in P1 no request is kept, and no part of a millisecond
 pub no-request : {link : ℕ} {f : Fields} → Facts link 1 f → f .request ≡ noOpen
 unfolding validRequest
 no-request {f = f} v = same-open (f .request) noOpen (v .request)
+
+pub no-part-kept : {link : ℕ} {f : Fields} → Facts link 1 f → f .part ≡ 0
+no-part-kept {f = f} v = eqb-true (f .part) 0 (v .part)

@@ -9,7 +9,7 @@ use Rattle.event.specs.Table.{openKnown}
 use Rattle.event.specs.declared.Open.{Open}
 use Rattle.phy.specs.Names.{fullTimer, answerOpenTimeout, answerBreakReceived, answerPortLayerRequest}
 use Rattle.phy.specs.Shapes.{noOpen, idle, requesting, givenUp, selected, connected, withTimer}
-use Rattle.phy.specs.State.{validPair, validTimer, validRequest, validInbound, validSettings, validOf}
+use Rattle.phy.specs.State.{validPair, validTimer, validRequest, validPart, validInbound, validSettings, validOf}
 use Rattle.phy.specs.declared.Settings.{Settings}
 use Rattle.phy_laws.proofs.Shapes.{Fields, phyOf, Facts}
 use Rattle.phy_laws.proofs.OneStep.{valid-of, timed}
@@ -20,15 +20,15 @@ module _ (s : Settings) (set : validSettings s ≡ true) where
   unfolding validOf validRequest validInbound
   idle-valid = rw set
 
-  pub requesting-valid : (t : ℕ) (o : Open) → timed t ≡ true → openKnown o ≡ true → validOf (requesting s 1 2 t o) ≡ true
+  pub requesting-valid : (t : ℕ) (o : Open) (part : ℕ) → timed t ≡ true → openKnown o ≡ true → validPart 2 (o .wait) part ≡ true → validOf (requesting s 1 2 t o part) ≡ true
   unfolding validOf validRequest validInbound
-  requesting-valid t o ht ho = rw (ht, ho, set)
+  requesting-valid t o part ht ho hp = rw (ht, ho, hp, set)
 
-  pub waiting-valid : (o : Open) → openKnown o ≡ true → validOf (requesting s 6 2 0 o) ≡ true
+  pub waiting-valid : (o : Open) (part : ℕ) → openKnown o ≡ true → validPart 2 (o .wait) part ≡ true → validOf (requesting s 6 2 0 o part) ≡ true
   unfolding validOf validRequest validInbound
-  waiting-valid o ho = rw (ho, set)
+  waiting-valid o part ho hp = rw (ho, hp, set)
 
-  pub breaking-valid : validOf (requesting s 6 1 0 noOpen) ≡ true
+  pub breaking-valid : validOf (requesting s 6 1 0 noOpen 0) ≡ true
   unfolding validOf validRequest validInbound
   breaking-valid = rw set
 
@@ -40,13 +40,13 @@ module _ (s : Settings) (set : validSettings s ≡ true) where
   unfolding validOf validRequest validInbound
   giving-up-valid o reason ho hr = rw (ho, hr, set)
 
-  pub selected-valid : (source protocol : ℕ) → leb source mostAddress ≡ true → leb protocol STP ≡ true → validOf (selected s 1 noOpen source protocol) ≡ true
+  pub selected-valid : (source protocol : ℕ) → leb source mostAddress ≡ true → leb protocol STP ≡ true → validOf (selected s 1 noOpen 0 source protocol) ≡ true
   unfolding validOf validRequest validInbound
   selected-valid source protocol hs hi = rw (hs, hi, set)
 
-  pub selected-waiting-valid : (o : Open) (source protocol : ℕ) → openKnown o ≡ true → leb source mostAddress ≡ true → leb protocol STP ≡ true → validOf (selected s 2 o source protocol) ≡ true
+  pub selected-waiting-valid : (o : Open) (part source protocol : ℕ) → openKnown o ≡ true → validPart 2 (o .wait) part ≡ true → leb source mostAddress ≡ true → leb protocol STP ≡ true → validOf (selected s 2 o part source protocol) ≡ true
   unfolding validOf validRequest validInbound
-  selected-waiting-valid o source protocol ho hs hi = rw (ho, hs, hi, set)
+  selected-waiting-valid o part source protocol ho hp hs hi = rw (ho, hp, hs, hi, set)
 
   pub connected-valid : (c farClosed : ℕ) → isFlag farClosed ≡ true → leb c STP ≡ true → validOf (connected s 3 0 c farClosed) ≡ true
   unfolding validOf validRequest validInbound
@@ -68,5 +68,5 @@ module _ (s : Settings) (set : validSettings s ≡ true) where
 pub counted-valid : (link port : ℕ) (f : Fields) (t : ℕ) → validPair link port ≡ true → validTimer link t ≡ true → Facts link port f → validOf (withTimer (phyOf link port f) t) ≡ true
 counted-valid link port f t v ht h =
     valid-of link port
-    (record { timer = t; request = f .request; reason = f .reason; inboundSource = f .inboundSource; inboundProtocol = f .inboundProtocol; connectionProtocol = f .connectionProtocol; farClosed = f .farClosed; settings = f .settings })
-    v (record { timer = ht; request = h .request; reason = h .reason; inboundProtocol = h .inboundProtocol; connectionProtocol = h .connectionProtocol; farClosed = h .farClosed; settings = h .settings })
+    (record { timer = t; request = f .request; part = f .part; reason = f .reason; inboundSource = f .inboundSource; inboundProtocol = f .inboundProtocol; connectionProtocol = f .connectionProtocol; farClosed = f .farClosed; settings = f .settings })
+    v (record { timer = ht; request = h .request; part = h .part; reason = h .reason; inboundProtocol = h .inboundProtocol; connectionProtocol = h .connectionProtocol; farClosed = h .farClosed; settings = h .settings })

@@ -6,7 +6,7 @@ use mathlib.Core.Path.{_≡_}
 use lib.Dec.{eqb}
 use Rattle.table.proofs.Laws.{parts, all-hold}
 use Rattle.event.specs.declared.Open.{Open}
-use Rattle.phy.specs.State.{validPair, validTimer, validRequest, validReason, validInbound, validConnection, validFarClosed, validSettings, validOf}
+use Rattle.phy.specs.State.{validPair, validTimer, validRequest, validPart, validReason, validInbound, validConnection, validFarClosed, validSettings, validOf}
 use Rattle.phy.specs.declared.Settings.{Settings}
 use Rattle.phy.specs.declared.Phy.{Phy}
 use Rattle.phy_laws.proofs.Tests.{either, at-number}
@@ -33,6 +33,7 @@ by-pair Q link port v a b c d e f g h i j k l =
 pub record Fields : Type 0 where
   pub timer : ℕ
   pub request : Open
+  pub part : ℕ
   pub reason : ℕ
   pub inboundSource : ℕ
   pub inboundProtocol : ℕ
@@ -42,11 +43,12 @@ pub record Fields : Type 0 where
 
 abbrev pub phyOf : (link port : ℕ) → Fields → Phy
 phyOf link port f =
-    record { link = link; port = port; timer = f .timer; request = f .request; reason = f .reason; inboundSource = f .inboundSource; inboundProtocol = f .inboundProtocol; connectionProtocol = f .connectionProtocol; farClosed = f .farClosed; settings = f .settings }
+    record { link = link; port = port; timer = f .timer; request = f .request; part = f .part; reason = f .reason; inboundSource = f .inboundSource; inboundProtocol = f .inboundProtocol; connectionProtocol = f .connectionProtocol; farClosed = f .farClosed; settings = f .settings }
 
 pub record Facts (link port : ℕ) (f : Fields) : Type 0 where
   pub timer : validTimer link (f .timer) ≡ true
   pub request : validRequest port (f .request) ≡ true
+  pub part : validPart port (f .request .wait) (f .part) ≡ true
   pub reason : validReason link port (f .reason) ≡ true
   pub inboundProtocol : validInbound link (f .inboundSource) (f .inboundProtocol) ≡ true
   pub connectionProtocol : validConnection port (f .connectionProtocol) ≡ true
@@ -55,14 +57,14 @@ pub record Facts (link port : ℕ) (f : Fields) : Type 0 where
 
 abbrev pub fieldsOf : Phy → Fields
 fieldsOf p =
-    record { timer = p .timer; request = p .request; reason = p .reason; inboundSource = p .inboundSource; inboundProtocol = p .inboundProtocol; connectionProtocol = p .connectionProtocol; farClosed = p .farClosed; settings = p .settings }
+    record { timer = p .timer; request = p .request; part = p .part; reason = p .reason; inboundSource = p .inboundSource; inboundProtocol = p .inboundProtocol; connectionProtocol = p .connectionProtocol; farClosed = p .farClosed; settings = p .settings }
 
--- the eight tests of a valid phy
+-- the nine tests of a valid phy
 pub facts : (p : Phy) → validOf p ≡ true → (validPair (p .link) (p .port) ≡ true) × Facts (p .link) (p .port) (fieldsOf p)
 unfolding validOf
 facts p v =
-    let t = all-hold _ (_ ∷ _ ∷ _ ∷ _ ∷ _ ∷ _ ∷ _ ∷ []) v in
-    (t 0, record { timer = t 1; request = t 2; reason = t 3; inboundProtocol = t 4; connectionProtocol = t 5; farClosed = t 6; settings = t 7 })
+    let t = all-hold _ (_ ∷ _ ∷ _ ∷ _ ∷ _ ∷ _ ∷ _ ∷ _ ∷ []) v in
+    (t 0, record { timer = t 1; request = t 2; part = t 3; reason = t 4; inboundProtocol = t 5; connectionProtocol = t 6; farClosed = t 7; settings = t 8 })
 
 -- what holds of each of the twelve shapes holds of every valid phy
 pub by-shape :

@@ -11,6 +11,6 @@ valid-closing-spec =
     tie.close
     (tie.spec
     (λ _ _. tt) (λ _ _. tt) (λ _ _. tt) (λ _ _. tt) (λ _ _. tt)
-    (λ c. simp (c .nobody .ensures, c .before .runs .ensures, c .before .before .match .keys1, c .before .before .before .before .before .open-known .ensures, c .before .before .before .before .before .before .valid-settings .ensures, or-false))
-    (λ c. simp (c .nobody2 .ensures, c .before .match .keys2, c .before .before .before .before .open-known .ensures, c .before .before .before .before .before .valid-settings .ensures, or-false))
-    (λ c. simp (ne-eqb (c .before .before .before .before .before .before .args .p .link) 5 (c .match .rest .0 .1), ne-eqb (c .before .before .before .before .before .before .args .p .link) 6 (c .match .rest .1))))
+    (λ c. simp (c .nobody .ensures, c .before .runs .ensures, c .before .before .match .keys1, c .before .before .before .before .before .before .open-known .ensures, c .before .before .before .before .before .before .before .valid-settings .ensures, or-false))
+    (λ c. simp (c .nobody2 .ensures, c .before .match .keys2, c .before .before .before .before .before .open-known .ensures, c .before .before .before .before .before .before .valid-settings .ensures, or-false))
+    (λ c. simp (ne-eqb (c .before .before .before .before .before .before .before .args .p .link) 5 (c .match .rest .0 .1), ne-eqb (c .before .before .before .before .before .before .before .args .p .link) 6 (c .match .rest .1))))

@@ -10,6 +10,6 @@ on-tick-spec =
     tie.close
     (tie.spec
     (λ _ _. tt) (λ _ _. tt) (λ _ _. tt)
-    (λ c. simp (c .on-tick-aged .ensures, c .before .with-request .ensures, c .before .before .longer .ensures, eq-eqb _ _ (c .before .before .before .if1 .taken)))
+    (λ c. simp (c .on-tick-aged .ensures, c .before .with-waited .ensures, c .before .before .longer .ensures, eq-eqb _ _ (c .before .before .before .if1 .taken)))
     (λ _ _. tt)
     (λ c. simp (c .on-tick-aged2 .ensures, ne-eqb _ _ (c .before .if1 .left))))
