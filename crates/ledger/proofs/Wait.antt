@@ -147,7 +147,7 @@ by-standing P below between at-most w h =
     let z = none-at-most (w .part) (subst (λ (k : ℕ). validPart P2 k (w .part) ≡ true) e (h .part)) in
     subst P (same-waited (mostWait and 0) w (sym e) (sym z)) at-most))
 
--- and are what their microseconds tell, which are at most those of the most
+-- and are what the field keeps of their microseconds, which are no more than the most means
 record InField (w : Waited) : Type 0 where
   same : inField (microseconds w) ≡ w
   within : microseconds w ≤ most

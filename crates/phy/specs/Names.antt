@@ -139,7 +139,7 @@ sentBreak = 5
 abbrev pub fullTimer : ℕ
 fullTimer = 1000
 
--- ---- the wait counts microseconds up to here, and milliseconds from here on; the most of a part of one
+-- ---- the wait: from where it counts milliseconds, and the most that may have passed of the next one
 
 abbrev pub bend : ℕ
 bend = 32768

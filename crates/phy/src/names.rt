@@ -88,7 +88,7 @@ pub const SENT_BREAK: u64 = 5;
 // Limits.
 pub const FULL_TIMER: u64 = 1000;
 
-// The wait counts microseconds up to here, and milliseconds from here on.
+// The wait: from where it counts milliseconds, and the most that may have passed of the next one.
 pub const BEND: u64 = 32768;
 
 pub const MOST_PART: u64 = 999;
