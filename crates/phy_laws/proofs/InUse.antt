@@ -2,19 +2,21 @@
 use Prim.Native.Nat.{ℕ}
 use mathlib.Core.Bool.{true, _&&_, _||_}
 use mathlib.Core.List.{[], _∷_}
+use mathlib.Core.Logic.{inl, inr}
 use mathlib.Core.Path.{_≡_}
-use borrow.Author.Tests.{eqb-true}
-use lib.Dec.{eqb, leb}
-use Rattle.table.proofs.Laws.{parts, all-hold}
-use Rattle.event.specs.Names.{STP, mostAddress}
+use borrow.Author.Tests.{eqb-true, leb-true, ltb-true}
+use lib.Dec.{eqb, leb, ltb}
+use Rattle.table.proofs.Laws.{by-test, parts, all-hold}
+use Rattle.event.specs.Names.{STP, mostWait, mostAddress}
 use Rattle.event.specs.Table.{openKnown, sameOpen}
 use Rattle.event.specs.declared.Open.{Open}
-use Rattle.phy.specs.Names.{L1, L4, L5}
+use Rattle.phy.specs.Names.{L1, L4, L5, P2, bend, mostPart}
 use Rattle.phy.specs.Shapes.{noOpen}
 use Rattle.phy.specs.State.{isNoOpen, validRequest, validInbound}
 use Rattle.phy_laws.specs.Waiting.{waits}
+use Rattle.phy_laws.specs.Laws.{PartInUse}
 use Rattle.phy_laws.proofs.Tests.{in-range}
-use Rattle.phy_laws.proofs.Shapes.{Fields, Facts}
+use Rattle.phy_laws.proofs.Shapes.{Fields, Facts, facts}
 use Rattle.phy_laws.proofs.OneStep.{timed}
 
 -- two Opens that test the same are the same
@@ -56,3 +58,13 @@ no-request {f = f} v = same-open (f .request) noOpen (v .request)
 
 pub no-part-kept : {link : ℕ} {f : Fields} → Facts link 1 f → f .part ≡ 0
 no-part-kept {f = f} v = eqb-true (f .part) 0 (v .part)
+
+-- the part, in any state: by the test that says where it is in use
+pub part-in-use : PartInUse
+part-in-use p v =
+    let h = facts p v .1 .part in
+    let w = p .request .wait in
+    by-test (eqb (p .port) P2 && leb bend w && ltb w mostWait)
+    (λ t. let q = all-hold (eqb (p .port) P2) (leb bend w ∷ ltb w mostWait ∷ []) t in
+    inr (eqb-true (p .port) P2 (q 0), leb-true bend w (q 1), ltb-true w mostWait (q 2), leb-true (p .part) mostPart (in-range (leb (p .part) mostPart) (eqb (p .part) 0) (rw t at h))))
+    (λ f. inl (eqb-true (p .part) 0 (rw f at h)))

@@ -26,6 +26,15 @@ FreshValid = validOf freshPhy ≡ true
 abbrev pub StaysValid : Type 0
 StaysValid = (p : Phy) (e : Event) → validOf p ≡ true → validOf (stepOf p e .next) ≡ true
 
+-- ---- the part of a millisecond (proofs/InUse)
+
+-- a valid phy has none but in P2, with a wait from 32,768 to 65,534, and then 999 at most
+abbrev pub PartInUse : Type 0
+PartInUse =
+    (p : Phy) → validOf p ≡ true
+    → (p .part ≡ 0)
+    ⊎ ((p .port ≡ P2) × (32768 ≤ p .request .wait) × (p .request .wait < 65535) × (p .part ≤ 999))
+
 -- ---- refused, nothing changes (proofs/Refusals)
 
 -- a refused step gives the phy back, every report zero
