@@ -14,6 +14,12 @@ struct bay {
     struct louravela_phy phy; /* the state, between events */
 };
 
+/* The microseconds that a wait means. */
+static uint64_t microseconds(uint64_t wait)
+{
+    return wait < 32768 ? wait : 32768 + (wait - 32768) * 1000;
+}
+
 static void take(struct bay *bay, struct louravela_event event)
 {
     struct louravela_stepped step = louravela_phy_step(bay->phy, event);
@@ -27,7 +33,7 @@ static void take(struct bay *bay, struct louravela_event event)
     }
     if (step.answer == LOURAVELA_ANSWER_OPENED && step.answered.tag == bay->tag) {
         printf("bay %d: label for drive %" PRIx64 ", after %" PRIu64 " us\n", bay->number, step.answered.destination,
-               step.answered.wait);
+               microseconds(step.answered.wait));
     } else {
         printf("bay %d: no label, answer %" PRIu64 "\n", bay->number, step.answer);
     }

@@ -2,6 +2,7 @@
 use Prim.Native.Nat.{ℕ}
 use mathlib.Core.Bool.{true, false≢true}
 use mathlib.Core.List.{List}
+use mathlib.Core.Logic.{_⊎_, inl, inr}
 use mathlib.Core.Path.{_≡_, refl, sym, ap, subst, _∙_}
 use native.Mathlib.Omega.{arith}
 use borrow.Author.Tests.{eqb-true}
@@ -27,7 +28,7 @@ use Rattle.ledger.specs.Wait.{microseconds, InP2}
 use Rattle.ledger.specs.Log.{Entry, entry, answered}
 use Rattle.ledger.specs.Ledger.{Waiting, free, waiting, grown, through, book}
 use Rattle.ledger.specs.Demand.{phyAfter, booksOf}
-use Rattle.ledger.specs.Truth.{OneMoreEachTick, OneMoreByStep, PartHeld, TrueWhileWaiting, TrueWhenAnswered}
+use Rattle.ledger.specs.Truth.{OneMoreEachTick, OneMoreByStep, LongerByTick, PartHeld, TrueWhileWaiting, TrueWhenAnswered}
 use Rattle.ledger.proofs.Wait.{one-more, true-after}
 use Rattle.ledger.proofs.OneEntry.{Holds, Agrees, not-broken, agree}
 use Rattle.ledger.proofs.Demand.{follow}
@@ -36,8 +37,8 @@ use Rattle.ledger.proofs.AnsweredBy.{Next, waits-on, answered-now, next
 -- ---- one tick
 
 -- a valid phy in P2 has a wait and a part that may stand there
-stands : (p : Phy) → validOf p ≡ true → p .port ≡ P2 → InP2 (waitedOf p)
-stands p v u =
+in-P2 : (p : Phy) → validOf p ≡ true → p .port ≡ P2 → InP2 (waitedOf p)
+in-P2 p v u =
     record {
       wait = wait-known (p .request) (request-known p v (rw u));
       part = subst (λ (port : ℕ). validPart port (p .request .wait) (p .part) ≡ true) u (facts p v .1 .part);
@@ -48,11 +49,14 @@ unfolding aged
 aged-longer p u = rw u
 
 pub one-more-each-tick : OneMoreEachTick
-one-more-each-tick p v u l = ap microseconds (aged-longer p u) ∙ one-more (waitedOf p) (stands p v u) l
+one-more-each-tick p v u l = ap microseconds (aged-longer p u) ∙ one-more (waitedOf p) (in-P2 p v u) l
+
+heard-tick : (p : Phy) (e : Event) → e .code ≡ tick → heard p e ≡ aged p
+unfolding heard
+heard-tick p e c = rw c
 
 heard-longer : (p : Phy) (e : Event) → e .code ≡ tick → p .port ≡ P2 → waitedOf (heard p e) ≡ longer (waitedOf p)
-unfolding heard
-heard-longer p e c u = rw c (aged-longer p u)
+heard-longer p e c u = ap waitedOf (heard-tick p e c) ∙ aged-longer p u
 
 -- a tick that leaves it there is one tick more
 ticked-on : (p : Phy) (e : Event) (r : Stepped) → Stepping p e r → e .code ≡ tick → r .next .port ≡ P2 → (p .port ≡ P2) × (waitedOf (r .next) ≡ longer (waitedOf p))
@@ -69,7 +73,19 @@ pub one-more-by-step : OneMoreByStep
 one-more-by-step p e j c u l =
     let m = step-is-move p e j in
     let t = ticked-on p e (stepOf p e) (subst (Stepping p e) (sym m) (one-step p e (j .valid) (j .known))) c u in
-    ap microseconds (t .1) ∙ one-more (waitedOf p) (stands p (j .valid) (t .0)) l
+    ap microseconds (t .1) ∙ one-more (waitedOf p) (in-P2 p (j .valid) (t .0)) l
+
+-- the request as it has grown waits on, or its answer carries it
+pub longer-by-tick : LongerByTick
+longer-by-tick p e j c u =
+    let m = step-is-move p e j in
+    let s = subst (Stepping p e) (sym m) (one-step p e (j .valid) (j .known)) in
+    let h = heard-tick p e c in
+    by-tally ((stepOf p e .next .request ≡ aged p .request) ⊎ (stepOf p e .answered ≡ aged p .request)) p e (stepOf p e) (s .tally)
+    (λ _ _ k. inl (k .request ∙ ap (λ (q : Phy). q .request) h))
+    (λ _ _ k. inr (k .carries ∙ ap (λ (q : Phy). q .request) h))
+    (λ w _ _. absurd (false≢true (sym w ∙ rw u)))
+    (λ w _ _. absurd (false≢true (sym w ∙ rw u)))
 
 -- ---- over any events
 

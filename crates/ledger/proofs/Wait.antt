@@ -13,7 +13,7 @@ use Rattle.phy.specs.State.{validPart}
 use Rattle.phy.specs.Ticks.{longer}
 use Rattle.phy.specs.declared.Waited.{Waited}
 use Rattle.phy_laws.proofs.Tests.{in-range}
-use Rattle.ledger.specs.Wait.{millisecond, meant, microseconds, inField, waitedFor, InP2, ticks, TicksGive, WaitsOn, OneMore, AtTheEnds, TrueAfter}
+use Rattle.ledger.specs.Wait.{millisecond, meant, microseconds, inField, waitedFor, InP2, ticks, TicksGive, WaitsAdd, OneMore, AtTheEnds, TrueAfter}
 
 -- ---- the two slopes, by their numbers
 
@@ -62,9 +62,9 @@ rises-below : (v n : ℕ) → v < bend → longer (v and n) ≡ (v + 1) and 0
 unfolding longer
 rises-below v n l = rw (lt-leb mostWait v (omega arith), lt-leb bend v l)
 
-counts : (q r : ℕ) → bend + q < mostWait → r < mostPart → longer ((bend + q) and r) ≡ (bend + q) and (r + 1)
+part-rises : (q r : ℕ) → bend + q < mostWait → r < mostPart → longer ((bend + q) and r) ≡ (bend + q) and (r + 1)
 unfolding longer
-counts q r l k = rw (lt-leb mostWait (bend + q) l, le-leb bend (bend + q) (omega arith), lt-ltb r mostPart k)
+part-rises q r l k = rw (lt-leb mostWait (bend + q) l, le-leb bend (bend + q) (omega arith), lt-ltb r mostPart k)
 
 rises-above : (q : ℕ) → bend + q < mostWait → longer ((bend + q) and mostPart) ≡ (bend + (q + 1)) and 0
 unfolding longer
@@ -91,7 +91,7 @@ longer-in-field =
     above q r l k =
         let b = most-is in
         by-order r mostPart
-        (λ s. counts q r (omega arith) s ∙ sym (ap inField (omega arith) ∙ field-above q (r + 1) (omega arith)))
+        (λ s. part-rises q r (omega arith) s ∙ sym (ap inField (omega arith) ∙ field-above q (r + 1) (omega arith)))
         (λ g. let e : r ≡ mostPart = omega arith in
         ap (λ (n : ℕ). longer ((bend + q) and n)) e ∙ rises-above q (omega arith) ∙ sym (ap inField (omega arith) ∙ field-above (q + 1) 0 (omega arith)))
 
@@ -112,9 +112,9 @@ longer-waited w n =
     (λ l. ap (λ (k : ℕ). longer (inField k)) (omega arith) ∙ longer-in-field m l ∙ ap inField (omega arith))
     (λ g. ap (λ (k : ℕ). longer (inField k)) (omega arith) ∙ longer-most ∙ ap inField (omega arith))
 
-pub waits-on : WaitsOn
+pub waits-add : WaitsAdd
 unfolding waitedFor
-waits-on w m n =
+waits-add w m n =
     let x = min most (microseconds w + m) in
     let e = microseconds-in-field x in
     ap inField (omega arith)
@@ -191,11 +191,24 @@ field-below-most =
     let b = most-is in
     by-slope (λ m. inField m .wait < mostWait → m < most) (λ m l _. omega arith) (λ q r l h. let k = rw (field-above q r l) at h in omega arith)
 
+field-exact : (m : ℕ) → inField m .wait < bend → inField m .part ≡ 0
+field-exact =
+    by-slope (λ m. inField m .wait < bend → inField m .part ≡ 0) (λ m l _. rw (field-below m l)) (λ q r l h. absurd (let k = rw (field-above q r l) at h in omega arith))
+
+field-within : (m : ℕ) → m ≤ most → inField m .wait ≤ mostWait
+field-within =
+    let b = most-is in
+    by-slope (λ m. m ≤ most → inField m .wait ≤ mostWait) (λ m l _. rw (field-below m l) (omega arith)) (λ q r l k. rw (field-above q r l) (omega arith))
+
 pub true-after : TrueAfter
 unfolding waitedFor
 true-after v n =
+    let b = most-is in
     let m = min most (meant v + 0 + n) in
+    let e = microseconds-in-field m in
     record {
-      never-more = omega (arith, microseconds-in-field m);
-      hardly-less = λ l. omega (arith, microseconds-in-field m, field-part m, field-below-most m l);
+      never-more = omega arith;
+      hardly-less = λ l. omega (arith, field-part m, field-below-most m l);
+      exact = λ l. omega (arith, field-exact m l, field-below-most m (omega arith));
+      no-further = field-within m (omega arith);
     }

@@ -1,7 +1,8 @@
--- That the wait of a phy tells the truth: it means the time that the request has waited, to the millisecond.
+-- That the wait of a phy tells the truth: what it means is the ticks in P2 since its Open, to the millisecond.
 use Prim.Native.Nat.{_+_, _<_}
 use mathlib.Core.Bool.{true}
 use mathlib.Core.List.{List}
+use mathlib.Core.Logic.{_⊎_}
 use mathlib.Core.Path.{_≡_}
 use Rattle.event.specs.Names.{mostWait, tick}
 use Rattle.event.specs.declared.Event.{Event}
@@ -28,6 +29,12 @@ abbrev pub OneMoreByStep : Type 0
 OneMoreByStep =
     (p : Phy) (e : Event) → Judged p e → e .code ≡ tick → stepOf p e .next .port ≡ P2 → p .request .wait < mostWait
     → microseconds (waitedOf (stepOf p e .next)) ≡ microseconds (waitedOf p) + 1
+
+-- whether the phy stays in P2 or leaves it, the request, or the answer to it, is the one that has waited a tick longer
+abbrev pub LongerByTick : Type 0
+LongerByTick =
+    (p : Phy) (e : Event) → Judged p e → e .code ≡ tick → p .port ≡ P2
+    → (stepOf p e .next .request ≡ aged p .request) ⊎ (stepOf p e .answered ≡ aged p .request)
 
 -- after any events, the part of a millisecond in P2 is the one that the ticks there since the Open give
 abbrev pub PartHeld : Type 0

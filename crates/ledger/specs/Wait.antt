@@ -16,7 +16,7 @@ use Rattle.phy.specs.declared.Waited.{Waited}
 abbrev pub millisecond : ℕ
 millisecond = 1000
 
--- the microseconds that a value of the wait means: itself below 32,768, and from there on milliseconds
+-- the microseconds that a value of the wait means: itself below 32,768, and then 32,768 and the milliseconds above it
 unfoldable pub meant : ℕ → ℕ
 meant v = pick (ltb v bend) v (bend + (v - bend) * millisecond)
 
@@ -34,7 +34,7 @@ waitedFor w n = inField (min (meant mostWait) (microseconds w + n))
 
 -- ---- what holds of it (proofs/Wait)
 
--- a tick at the ends of both slopes, and what they mean, in the request's own numbers
+-- a tick at the ends of both slopes, and what they mean, in the customer's own numbers
 pub record AtTheEnds : Type 0 where
   pub ticks :
       map longer
@@ -59,19 +59,21 @@ abbrev pub TicksGive : Type 0
 TicksGive = (w : Waited) (n : ℕ) → InP2 w → ticks n w ≡ waitedFor w n
 
 -- to wait m ticks and then n is to wait m + n
-abbrev pub WaitsOn : Type 0
-WaitsOn = (w : Waited) (m n : ℕ) → waitedFor (waitedFor w m) n ≡ waitedFor w (m + n)
+abbrev pub WaitsAdd : Type 0
+WaitsAdd = (w : Waited) (m n : ℕ) → waitedFor (waitedFor w m) n ≡ waitedFor w (m + n)
 
 -- a tick adds exactly one microsecond to what is meant, until the wait is 65,535
 abbrev pub OneMore : Type 0
 OneMore = (w : Waited) → InP2 w → w .wait < mostWait → microseconds (longer w) ≡ microseconds w + 1
 
--- a wait after n ticks: it never means more than the Open's did and n ticks, and until it is 65,535 less than a
--- millisecond less
+-- a wait after n ticks: it never means more than the Open's did and n ticks; until it is 65,535 it is short of that by
+-- less than a millisecond, and below 32,768 it is exact
 pub record Truthful (opened now n : ℕ) : Type 0 where
   pub never-more : meant now ≤ meant opened + n
   pub hardly-less : now < mostWait → meant opened + n < meant now + millisecond
+  pub exact : now < bend → meant now ≡ meant opened + n
+  pub no-further : now ≤ mostWait
 
--- so it is with every wait that an Open may begin with
+-- so it is with every wait that an Open begins with
 abbrev pub TrueAfter : Type 0
 TrueAfter = (opened n : ℕ) → Truthful opened (waitedFor (opened and 0) n .wait) n

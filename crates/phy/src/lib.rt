@@ -32,7 +32,7 @@ pub struct Settings {
     pub accept: u64,
 }
 
-// How long a request has waited: its wait, and from 32,768 on the part of a millisecond since that rose.
+// How long a request has waited: its wait, and from 32,768 on what has passed of the next millisecond.
 pub struct Waited {
     pub wait: u64,
     pub part: u64,

@@ -13,7 +13,7 @@ use event::MOST_WAIT;
 use table::OFF;
 use table::ON;
 
-// The part begins anew at its thousandth tick, and a wait that reaches the bend or the most has none.
+// Where the wait rises the part is 0: below the bend it was, and above it a whole millisecond has passed.
 fn longer(w: Waited) -> Waited
     ensures { λ r. ⌜ r ≡ Ticks·longer w ⌝ }
 {

@@ -41,8 +41,8 @@ pub record Taken (e : Event) (r : Stepped) : Type 0 where
   pub part : r .next .part ≡ 0
   pub soon : left (r .next) ≤ 2000
 
--- the request waits on, and in P2 it was there before; a tick takes one off what it may yet take, an AIP gives at most
--- 999
+-- the request waits on, and if it is in P2 now it was there before; a tick takes one off what it may yet take, an AIP
+-- gives at most 999
 pub record Kept (p : Phy) (e : Event) (r : Stepped) : Type 0 where
   pub silent : r .answer ≡ 0
   pub none : r .answered ≡ noOpen
