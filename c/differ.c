@@ -39,8 +39,9 @@ bool one_in(uint64_t chances)
 
 uint64_t random_any(void)
 {
-    static const uint64_t edges[] = {0, 1, 2, 3, 7, 8, 9, 69, 70, 71, 127, 128, 255, 256, 998, 999, 1000, 1001, 32767, 32768,
-                                     65534, 65535, 65536, UINT32_MAX, UINT64_C(1) << 32, UINT64_C(1) << 63, UINT64_MAX};
+    static const uint64_t edges[] = {0, 1, 2, 3, 7, 8, 9, 69, 70, 71, 127, 128, 255, 256, 998, 999, 1000, 1001, 32767,
+                                     32768, 65534, 65535, 65536, UINT32_MAX, UINT64_C(1) << 32, UINT64_C(1) << 63,
+                                     UINT64_MAX};
 
     if (one_in(2)) {
         return edges[random_below(sizeof edges / sizeof edges[0])];

@@ -15,8 +15,7 @@ use Rattle.phy.specs.declared.Waited.{Waited}
 use Rattle.phy.specs.declared.Phy.{Phy}
 use Rattle.phy.specs.declared.Stepped.{Stepped}
 
--- one tick more: at 65,535 nothing rises; up to 32,768 the wait rises, and from there on the part of a millisecond, at
--- whose thousandth the wait rises and the part begins anew
+-- one tick more: up to 32,768 the wait rises, then the part, at whose thousandth the wait does; 65,535 is the most
 unfoldable pub longer : Waited → Waited
 longer w =
     pick (leb mostWait (w .wait)) w

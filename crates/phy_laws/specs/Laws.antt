@@ -6,10 +6,10 @@ use mathlib.Core.Path.{_≡_}
 use lib.Dec.{eqb}
 use Rattle.table.specs.Refusals.{badState, badEvent, busy, nothingPending, notConnected, wrongProtocol}
 use Rattle.event.specs.Names.{SMP, txOpen, cancelOpen, closeConnection, smpTransmitBreak, acceptOpens, rejectOpens}
-use Rattle.event.specs.Names.{hardReset, phyDisabled}
+use Rattle.event.specs.Names.{hardReset, phyDisabled, mostWait}
 use Rattle.event.specs.Table.{knownOf}
 use Rattle.event.specs.declared.Event.{Event}
-use Rattle.phy.specs.Names.{L3, P1, P2, P3, noticeReset, sentBreak}
+use Rattle.phy.specs.Names.{L3, P1, P2, P3, noticeReset, sentBreak, bend, mostPart}
 use Rattle.phy.specs.Shapes.{noOpen, freshPhy, refused}
 use Rattle.phy.specs.State.{validOf}
 use Rattle.phy.specs.Step.{moveOf, stepOf}
@@ -33,7 +33,7 @@ abbrev pub PartInUse : Type 0
 PartInUse =
     (p : Phy) → validOf p ≡ true
     → (p .part ≡ 0)
-    ⊎ ((p .port ≡ P2) × (32768 ≤ p .request .wait) × (p .request .wait < 65535) × (p .part ≤ 999))
+    ⊎ ((p .port ≡ P2) × (bend ≤ p .request .wait) × (p .request .wait < mostWait) × (p .part ≤ mostPart))
 
 -- ---- refused, nothing changes (proofs/Refusals)
 
