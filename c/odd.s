@@ -33,3 +33,19 @@ odd_depths:
         .globl  odd_twice
 odd_twice:
         ret
+
+# It pushes a word in one of the cases among which it chooses by a table. Both sections have colons in their names, as
+# those of a crate's functions.
+        .section        ".text.odd::named", "ax"
+        .globl  odd_named
+odd_named:
+        lea     2f(%rip), %rax
+        movslq  (%rax,%rdi,4), %rdx
+        add     %rax, %rdx
+        jmp     *%rdx
+0:      push    %rdi
+        pop     %rdi
+1:      ret
+
+        .section        ".rodata.odd::named", "a"
+2:      .long   0b-2b, 1b-2b

@@ -40,7 +40,7 @@ function hex(text,    minus, negative, value, digit, i) {
     object = archive ":" ++members
     next
 }
-/^RELOCATION RECORDS FOR / { section = $4; gsub(/\[|\]|:/, "", section); next }
+/^RELOCATION RECORDS FOR / { section = $4; gsub(/^\[|\]:$/, "", section); next }
 /^Disassembly of section / { section = $4; sub(/:$/, "", section); next }
 
 # A symbol: 0000000000000000 g     F .text	000000000000004d .hidden name
