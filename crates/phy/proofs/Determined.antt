@@ -7,6 +7,7 @@ determined =
     record {
       fresh = by-equation _;
       valid = λ p. by-equation _;
+      last-tick = λ p. by-equation _;
       moved = λ p e. by-equation _;
       step = λ p e. by-equation _;
     }

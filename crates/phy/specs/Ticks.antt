@@ -35,14 +35,19 @@ abbrev pub counts : Phy → (over : Stepped) → Stepped
 counts p over = pick (leb (p .timer) 1) over (quiet (withTimer p (p .timer - 1)))
 
 -- L1: the Open has failed, and its answer waits for the link to be idle
+abbrev pub openFailed : Phy → Stepped
+openFailed p = reports (givenUp (p .settings) L5 fullTimer (p .request) answerOpenTimeout) 0 sentBreak
+
 unfoldable pub tickRequesting : Phy → Stepped
-tickRequesting p =
-    counts p (reports (givenUp (p .settings) L5 fullTimer (p .request) answerOpenTimeout) 0 sentBreak)
+tickRequesting p = counts p (openFailed p)
 
 -- L4: no CLOSE came
+abbrev pub closeFailed : Phy → Stepped
+closeFailed p =
+    reports (connected (p .settings) L5 fullTimer (p .connectionProtocol) off) noticeCloseTimeout sentBreak
+
 unfoldable pub tickClosing : Phy → Stepped
-tickClosing p =
-    counts p (reports (connected (p .settings) L5 fullTimer (p .connectionProtocol) off) noticeCloseTimeout sentBreak)
+tickClosing p = counts p (closeFailed p)
 
 -- L5: neither BREAK nor OPEN_REJECT came in time
 unfoldable pub tickBreaking : Phy → Stepped
@@ -81,6 +86,10 @@ tickRows p =
 -- what a tick does once the wait has risen
 unfoldable pub onTickAged : Phy → Stepped
 onTickAged p = rows (p .link) (tickRows p) (quiet p)
+
+-- the last tick in a link state, which ends it: the timer is over
+unfoldable pub lastTick : Phy → Stepped
+lastTick p = onTickAged (withTimer p 0)
 
 -- the wait rises before all else
 unfoldable pub onTick : Phy → Stepped

@@ -23,8 +23,14 @@ use event::REJECT_OPENS;
 use event::SMP_TRANSMIT_BREAK;
 use event::TICK;
 use event::TX_OPEN;
+pub use names::BEND;
+pub use names::L0;
+pub use names::L3;
+pub use names::P2;
+pub use shapes::NO_OPEN;
 pub use shapes::fresh;
 pub use state::valid;
+pub use ticks::last_tick;
 
 // What outlives every move but a reset: flags.
 #[repr(C)]

@@ -15,7 +15,8 @@ use crate::names::P4;
 use event::Open;
 use table::OFF;
 
-const NO_OPEN: Open = Open {
+// No Open: what a step answers that has no answer.
+pub const NO_OPEN: Open = Open {
     destination: 0,
     protocol: 0,
     rate: 0,

@@ -2,7 +2,8 @@
 ghost use mathlib.Core.Path.{_≡_};
 ghost use Prim.Native.Nat.{_-_, _<_};
 ghost use Rattle.phy.specs.Shapes.{quiet as Shapes·quiet, withTimer};
-ghost use Rattle.phy.specs.Ticks.{longer as Ticks·longer, tickRequesting, tickClosing, tickBreaking, openedBy, accepted as Ticks·accepted, tickSelected, onTickAged, onTick};
+ghost use Rattle.phy.specs.Ticks.{longer as Ticks·longer, openFailed, tickRequesting, closeFailed, tickClosing, tickBreaking, openedBy, accepted as Ticks·accepted, tickSelected, onTickAged, onTick};
+ghost use Rattle.phy.specs.Contracts.{EndsState};
 use crate::Phy;
 use crate::Stepped;
 use crate::Waited;
@@ -49,31 +50,43 @@ fn opened_by(source: u64, destination: u64) -> u64
     ANSWER_OPENED_BY_OTHER
 }
 
-fn tick_requesting(p: Phy) -> Stepped
-    ensures { λ r. ⌜ r ≡ tickRequesting p ⌝ }
+fn open_failed(p: Phy) -> Stepped
+    ensures { λ r. ⌜ r ≡ openFailed p ⌝ }
 {
     let settings = p.settings;
     let request = p.request;
+    reports(
+        given_up(settings, L5, FULL_TIMER, request, ANSWER_OPEN_TIMEOUT),
+        0,
+        SENT_BREAK,
+    )
+}
+
+fn tick_requesting(p: Phy) -> Stepped
+    ensures { λ r. ⌜ r ≡ tickRequesting p ⌝ }
+{
     if p.timer <= 1 {
-        return reports(
-            given_up(settings, L5, FULL_TIMER, request, ANSWER_OPEN_TIMEOUT),
-            0,
-            SENT_BREAK,
-        );
+        return open_failed(p);
     }
     counted(p)
+}
+
+fn close_failed(p: Phy) -> Stepped
+    ensures { λ r. ⌜ r ≡ closeFailed p ⌝ }
+{
+    let settings = p.settings;
+    reports(
+        connected(settings, L5, FULL_TIMER, p.connectionProtocol, OFF),
+        NOTICE_CLOSE_TIMEOUT,
+        SENT_BREAK,
+    )
 }
 
 fn tick_closing(p: Phy) -> Stepped
     ensures { λ r. ⌜ r ≡ tickClosing p ⌝ }
 {
-    let settings = p.settings;
     if p.timer <= 1 {
-        return reports(
-            connected(settings, L5, FULL_TIMER, p.connectionProtocol, OFF),
-            NOTICE_CLOSE_TIMEOUT,
-            SENT_BREAK,
-        );
+        return close_failed(p);
     }
     counted(p)
 }
@@ -132,6 +145,21 @@ fn on_tick_aged(p: Phy) -> Stepped
         L6 => to_idle(p, 0),
         L2 => tick_selected(p),
         _ => quiet(p),
+    }
+}
+
+// The tick that ends a link state, for whoever has counted down to it.
+pub fn last_tick(p: Phy) -> Stepped
+    ensures { λ r. ⌜ EndsState p r ⌝ }
+{
+    let link = p.link;
+    match link {
+        L1 => open_failed(p),
+        L4 => close_failed(p),
+        L5 => to_idle(p, 0),
+        L6 => to_idle(p, 0),
+        L2 => tick_selected(p),
+        _ => quiet(with_timer(p, 0)),
     }
 }
 

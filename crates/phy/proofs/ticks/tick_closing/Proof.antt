@@ -9,7 +9,7 @@ unfolding tickClosing
 tick-closing-spec =
     tie.close
     (tie.spec
-    (λ _ _. tt) (λ _ _. tt)
-    (λ c. simp (c .reports .ensures, c .before .connected .ensures, le-leb _ _ (c .before .before .if1 .taken)))
+    (λ _ _. tt)
+    (λ c. simp (c .close-failed .ensures, le-leb _ _ (c .before .if1 .taken)))
     (λ c κs. c .if1 .left)
     (λ c. simp (c .counted .ensures, lt-leb _ _ (c .before .if1 .left))))
