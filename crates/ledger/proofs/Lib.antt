@@ -1,3 +1,4 @@
+pub mod Log
 pub mod Wait
 pub mod OneEntry
 pub mod Demand

@@ -4,8 +4,8 @@ use mathlib.Core.Bool.{true}
 use mathlib.Core.Path.{_≡_, refl, sym, ap, subst, _∙_}
 use native.Mathlib.Omega.{arith}
 use borrow.Author.Tests.{lt-ltb, le-ltb, le-leb, lt-leb, eqb-true, leb-true}
-use lib.Dec.{eqb, leb}
-use Rattle.table.proofs.Laws.{by-order}
+use lib.Dec.{eqb, leb, ltb}
+use Rattle.table.proofs.Laws.{by-order, by-pick}
 use Rattle.event.specs.Names.{mostWait}
 use Rattle.phy.specs.Names.{P2, bend, mostPart}
 use Rattle.phy.specs.Shapes.{_and_}
@@ -20,9 +20,14 @@ use Rattle.ledger.specs.Wait.{millisecond, meant, microseconds, inField,
 abbrev most : ℕ
 most = meant mostWait
 
-most-is : most ≡ 32799768
+pub most-is : most ≡ 32799768
 unfolding meant
 most-is = refl
+
+-- no wait means more
+pub meant-few : (v : ℕ) → v ≤ mostWait → meant v ≤ 32799768
+unfolding meant
+meant-few v h = by-pick (λ (m : ℕ). m ≤ 32799768) (ltb v bend) (λ _. omega arith) (λ _. omega arith)
 
 meant-below : (v : ℕ) → v < bend → meant v ≡ v
 unfolding meant

@@ -10,6 +10,7 @@ use Rattle.table.proofs.Laws.{by-test, by-pick, each, parts}
 use Rattle.event.specs.Names.{STP, SMP, txOpen, tick, phyDisabled, mostAddress, mostReject}
 use Rattle.event.specs.Table.{argumentRange, argumentsKnown, codeKnown, knownOf, openOf, openKnown}
 use Rattle.event.specs.declared.Event.{Event}
+use Rattle.event.proofs.Ranges.{in-ranges}
 use Rattle.phy.specs.Names.{fullTimer, answerOpenTimeout, answerBreakReceived, answerPortLayerRequest}
 use Rattle.phy.specs.Shapes.{withWait, withTimer, withWaited}
 use Rattle.phy.specs.State.{isNoOpen, validRequest, validOf}
@@ -22,7 +23,7 @@ use Rattle.phy_laws.specs.Waiting.{waits, isAnswer}
 use Rattle.phy_laws.proofs.Counting.{heard, left}
 use Rattle.phy_laws.proofs.Tests.{either, at-number, in-range, in-use}
 use Rattle.phy_laws.proofs.Shapes.{Fields, phyOf, Facts, by-shape}
-use Rattle.phy_laws.proofs.OneStep.{setsFlag, Stepping, valid-of, settings-valid, still, in-ranges, open-known, protocol-known, longer-known, no-part, longer-counts, timed, at-least-one, timed-down}
+use Rattle.phy_laws.proofs.OneStep.{setsFlag, Stepping, valid-of, settings-valid, still, open-known, protocol-known, longer-known, no-part, longer-counts, timed, at-least-one, timed-down}
 use Rattle.phy_laws.proofs.InUse.{asked, runs, inbounds, linked, no-request, no-part-kept}
 use Rattle.phy_laws.proofs.Reached.{idle-valid, requesting-valid, waiting-valid, breaking-valid, broken-valid, giving-up-valid, selected-valid, selected-waiting-valid, connected-valid, closing-valid, cutting-valid, cut-valid, counted-valid}
 

@@ -44,7 +44,7 @@ none n h =
 pub answer-least : (n : ℕ) → isAnswer n ≡ true → answerOpened ≤ n
 answer-least n a = by-order n answerOpened (λ l. absurd (false≢true (sym (none n (λ k g h q. omega arith)) ∙ a))) (λ g. g)
 
-answer-most : (n : ℕ) → isAnswer n ≡ true → n ≤ answerTerminated
+pub answer-most : (n : ℕ) → isAnswer n ≡ true → n ≤ answerTerminated
 answer-most n a = by-order answerTerminated n (λ l. absurd (false≢true (sym (none n (λ k g h q. omega arith)) ∙ a))) (λ g. g)
 
 -- a step's answer is none or one of the sixteen

@@ -3,6 +3,7 @@ pub mod Tests
 pub mod Shapes
 pub mod OneStep
 pub mod InUse
+pub mod Ticking
 pub mod Reached
 pub mod ByEvent
 pub mod Steps

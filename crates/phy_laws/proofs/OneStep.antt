@@ -7,9 +7,10 @@ use native.Mathlib.Omega.{arith}
 use borrow.Author.Tests.{leb-true, leb-false, ltb-true, le-leb, lt-ltb}
 use lib.Dec.{eqb, leb, ltb, leb·zero}
 use Rattle.table.specs.Choice.{pick}
-use Rattle.table.proofs.Laws.{by-test, by-pick, parts, one, all-hold}
+use Rattle.table.proofs.Laws.{by-test, by-pick, parts, one}
 use Rattle.event.specs.Names.{STP, txOpen, tick, mostWait}
-use Rattle.event.specs.Table.{within, argumentRange, argumentsKnown, codeKnown, knownOf, openOf, openKnown}
+use Rattle.event.specs.Table.{argumentRange, argumentsKnown, codeKnown, knownOf, openOf, openKnown}
+use Rattle.event.proofs.Ranges.{fit, in-ranges}
 use Rattle.event.specs.declared.Event.{Event}
 use Rattle.event.specs.declared.Open.{Open}
 use Rattle.phy.specs.Names.{P2, fullTimer, bend, mostPart}
@@ -105,15 +106,6 @@ module _ (e : Event) (n : ℕ) (other : eqb (e .code) tick ≡ false) (opens : e
 
 -- ---- small facts of kept Opens and of the timer
 
--- each argument of a known event is in its range
-abbrev fit : (code i v : ℕ) → Bool
-fit code i v = within (argumentRange code i) v
-
-pub in-ranges : (code a b c d g h : ℕ) → argumentsKnown code a b c d g h ≡ true → (i : ℕ)
-    → one (fit code 0 a ∷ fit code 1 b ∷ fit code 2 c ∷ fit code 3 d ∷ fit code 4 g ∷ fit code 5 h ∷ []) i ≡ true
-unfolding argumentsKnown
-in-ranges code a b c d g h = all-hold (fit code 0 a) (fit code 1 b ∷ fit code 2 c ∷ fit code 3 d ∷ fit code 4 g ∷ fit code 5 h ∷ [])
-
 open-fits : (o : Open) → openKnown o ≡ true → (i : ℕ)
     → one (fit txOpen 0 (o .destination) ∷ fit txOpen 1 (o .protocol) ∷ fit txOpen 2 (o .rate) ∷ fit txOpen 3 (o .tag) ∷ fit txOpen 4 (o .blockedCount) ∷ fit txOpen 5 (o .wait) ∷ []) i ≡ true
 unfolding openKnown
@@ -173,6 +165,9 @@ timed t = leb 1 t && leb t fullTimer
 pub at-least-one : (t : ℕ) → timed t ≡ true → 1 ≤ t
 at-least-one t h = leb-true 1 t (parts (leb 1 t) (leb t fullTimer) h .0)
 
+pub at-most-full : (t : ℕ) → timed t ≡ true → t ≤ fullTimer
+at-most-full t h = leb-true t fullTimer (parts (leb 1 t) (leb t fullTimer) h .1)
+
 -- one that has not fallen to 0 still runs
 pub timed-down : (t : ℕ) → timed t ≡ true → leb t 1 ≡ false → timed (t - 1) ≡ true
-timed-down t h f = rw (le-leb 1 (t - 1) (omega (arith, leb-false t 1 f)), le-leb (t - 1) fullTimer (omega (arith, leb-true t fullTimer (parts (leb 1 t) (leb t fullTimer) h .1))))
+timed-down t h f = rw (le-leb 1 (t - 1) (omega (arith, leb-false t 1 f)), le-leb (t - 1) fullTimer (omega (arith, at-most-full t h)))

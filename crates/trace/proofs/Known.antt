@@ -1,32 +1,20 @@
 -- An event is known exactly when its code is and each argument, also one that it lacks, lies in the range that the table has for it.
 use Prim.Native.Nat.{ℕ, zero, suc, _^_, _≤_, _<_}
-use mathlib.Core.Bool.{Bool, true, false, _&&_, false≢true}
+use mathlib.Core.Bool.{Bool, true, _&&_}
 use mathlib.Core.List.{List, [], _∷_}
 use mathlib.Core.Path.{_≡_, refl, ap₂, subst}
 use native.Mathlib.Nat.{le-trans}
 use native.Mathlib.Omega.{arith}
 use borrow.Author.Tests.{leb-true}
-use lib.Dec.{eqb, leb}
+use lib.Dec.{leb}
 use lib.ListN.{length, getD, List·getD-eq-default}
-use Rattle.table.proofs.Laws.{by-test}
-use Rattle.event.specs.Names.{txOpen, openReceived, openRejectReceived, phyDisabled}
-use Rattle.event.specs.Table.{eventOf, _to_, argumentsOf, argumentCount, rangeAt, argumentRange, within, codeKnown, argumentsKnown, knownOf}
+use Rattle.table.proofs.Laws.{every, parts, one}
+use Rattle.event.specs.Names.{txOpen, phyDisabled}
+use Rattle.event.specs.Table.{eventOf, _to_, argumentRows, argumentsOf, argumentCount, rangeAt, argumentRange, within, codeKnown, argumentsKnown, knownOf}
 use Rattle.event.specs.declared.Event.{Event}
 use Rattle.event.specs.declared.Range.{Range}
+use Rattle.event.proofs.Ranges.{fit, in-ranges}
 use Rattle.trace.specs.Writing.{allNumbers}
-
-both : (a b : Bool) → (a && b) ≡ true → (a ≡ true) × (b ≡ true)
-both true b e = (refl, e)
-both false b e = absurd (false≢true e)
-
-each-of : (a b c d e f : Bool) → (a && b && c && d && e && f) ≡ true → (a ≡ true) × (b ≡ true) × (c ≡ true) × (d ≡ true) × (e ≡ true) × (f ≡ true)
-each-of true true true true true true h = (refl, refl, refl, refl, refl, refl)
-each-of false b c d e f h = absurd (false≢true h)
-each-of true false c d e f h = absurd (false≢true h)
-each-of true true false d e f h = absurd (false≢true h)
-each-of true true true false e f h = absurd (false≢true h)
-each-of true true true true false f h = absurd (false≢true h)
-each-of true true true true true false h = absurd (false≢true h)
 
 join : {a b : Bool} → a ≡ true → b ≡ true → (a && b) ≡ true
 join p q = ap₂ _&&_ p q
@@ -37,15 +25,11 @@ abbrev Capped : List Range → Type 0
 Capped [] = Unit
 Capped (r ∷ rs) = (r .most < 2 ^ 64) × Capped rs
 
--- what holds of each row of the table, and of no arguments, holds of a code's arguments
-row : (P : List Range → Type 0) (code : ℕ) → P (argumentsOf txOpen) → P (argumentsOf openReceived) → P (argumentsOf openRejectReceived) → P [] → P (argumentsOf code)
-row P code a b c d =
-    by-test (eqb code txOpen)
-    (λ t. rw t a)
-    (λ f. by-test (eqb code openReceived) (λ t. rw (f, t) b) (λ g. by-test (eqb code openRejectReceived) (λ t. rw (f, g, t) c) (λ h. rw (f, g, h) d)))
-
 pub at-most-six : (code : ℕ) → length (argumentsOf code) ≤ 6
-at-most-six code = row (λ (l : List Range). length l ≤ 6) code (omega arith) (omega arith) (omega arith) (omega arith)
+at-most-six code =
+    every (λ (l : List Range). length l ≤ 6) code argumentRows
+    (omega arith, (omega arith, (omega arith, tt)))
+    (omega arith)
 
 pub six-arguments : (code : ℕ) → argumentCount code ≤ 6
 unfolding argumentCount
@@ -53,10 +37,10 @@ six-arguments code = at-most-six code
 
 capped : (code : ℕ) → Capped (argumentsOf code)
 capped code =
-    row Capped code
-    (omega arith, (omega arith, (omega arith, (omega arith, (omega arith, (omega arith, tt))))))
-    (omega arith, (omega arith, tt))
-    (omega arith, tt)
+    every Capped code argumentRows (
+      (omega arith, (omega arith, (omega arith, (omega arith, (omega arith, (omega arith, tt)))))),
+      ((omega arith, (omega arith, tt)), ((omega arith, tt), tt)),
+    )
     tt
 
 capped-at : (ranges : List Range) → Capped ranges → (k : ℕ) → rangeAt ranges k .most < 2 ^ 64
@@ -73,12 +57,12 @@ AllWithin ranges vs = (k : ℕ) → within (rangeAt ranges k) (getD vs k 0) ≡ 
 pub lacks : (ranges : List Range) (vs : List ℕ) → AllWithin ranges vs → (k : ℕ) → length ranges ≤ k → getD vs k 0 ≡ 0
 lacks ranges vs w k h =
     let z : within (0 to 0) (getD vs k 0) ≡ true = subst (λ (r : Range). within r (getD vs k 0) ≡ true) (List·getD-eq-default ranges (0 to 0) h) (w k) in
-    omega (arith, leb-true (getD vs k 0) 0 (both (leb 0 (getD vs k 0)) (leb (getD vs k 0) 0) z .1))
+    omega (arith, leb-true (getD vs k 0) 0 (parts (leb 0 (getD vs k 0)) (leb (getD vs k 0) 0) z .1))
 
 pub small : (code : ℕ) (vs : List ℕ) → AllWithin (argumentsOf code) vs → (k : ℕ) → getD vs k 0 < 2 ^ 64
 small code vs w k =
     let range : Range = rangeAt (argumentsOf code) k in
-    omega (arith, leb-true (getD vs k 0) (range .most) (both (leb (range .least) (getD vs k 0)) (leb (getD vs k 0) (range .most)) (w k) .1), capped-at (argumentsOf code) (capped code) k)
+    omega (arith, leb-true (getD vs k 0) (range .most) (parts (leb (range .least) (getD vs k 0)) (leb (getD vs k 0) (range .most)) (w k) .1), capped-at (argumentsOf code) (capped code) k)
 
 -- ---- from an event that is known, and back
 
@@ -93,14 +77,11 @@ pub record IsKnown (code : ℕ) (vs : List ℕ) : Type 0 where
 module _ (e : Event) (k : knownOf e ≡ true) where
   coded-of : codeKnown (e .code) ≡ true
   unfolding knownOf
-  coded-of = both _ _ k .0
+  coded-of = parts _ _ k .0
 
-  abbrev at : (n v : ℕ) → Bool
-  at n v = within (argumentRange (e .code) n) v
-
-  six-of : (at 0 (e .first) ≡ true) × (at 1 (e .second) ≡ true) × (at 2 (e .third) ≡ true) × (at 3 (e .fourth) ≡ true) × (at 4 (e .fifth) ≡ true) × (at 5 (e .sixth) ≡ true)
-  unfolding knownOf argumentsKnown
-  six-of = each-of (at 0 (e .first)) (at 1 (e .second)) (at 2 (e .third)) (at 3 (e .fourth)) (at 4 (e .fifth)) (at 5 (e .sixth)) (both (codeKnown (e .code)) _ k .1)
+  six-of : (n : ℕ) → one (fit (e .code) 0 (e .first) ∷ fit (e .code) 1 (e .second) ∷ fit (e .code) 2 (e .third) ∷ fit (e .code) 3 (e .fourth) ∷ fit (e .code) 4 (e .fifth) ∷ fit (e .code) 5 (e .sixth) ∷ []) n ≡ true
+  unfolding knownOf
+  six-of = in-ranges (e .code) (e .first) (e .second) (e .third) (e .fourth) (e .fifth) (e .sixth) (parts (codeKnown (e .code)) _ k .1)
 
   past-six : (n : ℕ) → 6 ≤ n → within (rangeAt (argumentsOf (e .code)) n) (getD (sixOf e) n 0) ≡ true
   past-six n h =
@@ -108,12 +89,12 @@ module _ (e : Event) (k : knownOf e ≡ true) where
 
   ranged-of : AllWithin (argumentsOf (e .code)) (sixOf e)
   unfolding argumentRange
-  ranged-of zero = six-of .0
-  ranged-of (suc zero) = six-of .1
-  ranged-of (suc (suc zero)) = six-of .2
-  ranged-of (suc (suc (suc zero))) = six-of .3
-  ranged-of (suc (suc (suc (suc zero)))) = six-of .4
-  ranged-of (suc (suc (suc (suc (suc zero))))) = six-of .5
+  ranged-of zero = six-of 0
+  ranged-of (suc zero) = six-of 1
+  ranged-of (suc (suc zero)) = six-of 2
+  ranged-of (suc (suc (suc zero))) = six-of 3
+  ranged-of (suc (suc (suc (suc zero)))) = six-of 4
+  ranged-of (suc (suc (suc (suc (suc zero))))) = six-of 5
   ranged-of (suc (suc (suc (suc (suc (suc n)))))) = past-six (suc (suc (suc (suc (suc (suc n)))))) (omega arith)
 
   pub is-known : IsKnown (e .code) (sixOf e)
@@ -121,7 +102,7 @@ module _ (e : Event) (k : knownOf e ≡ true) where
 
   -- its code and its arguments are of 64 bits
   pub numbers-small : (n : ℕ) → getD (allNumbers e) n 0 < 2 ^ 64
-  numbers-small zero = omega (arith, leb-true (e .code) phyDisabled (both (leb txOpen (e .code)) (leb (e .code) phyDisabled) coded-of .1))
+  numbers-small zero = omega (arith, leb-true (e .code) phyDisabled (parts (leb txOpen (e .code)) (leb (e .code) phyDisabled) coded-of .1))
   numbers-small (suc n) = small (e .code) (sixOf e) ranged-of n
 
 pub known-is : {code : ℕ} {vs : List ℕ} → IsKnown code vs → knownOf (eventOf code vs) ≡ true
