@@ -6,7 +6,8 @@ pub determined : Determined
 determined =
     record {
       known = λ e. by-equation _;
-      code-known = λ code. by-equation _;
+      known-in-trace = λ e. by-equation _;
+      code-in-trace = λ code. by-equation _;
       argument-count = λ code. by-equation _;
       argument-range = λ code i. by-equation _;
       open-known = λ o. by-equation _;

@@ -2,7 +2,7 @@
 use Prim.Native.Nat.{ℕ}
 use mathlib.Core.Bool.{Bool}
 use mathlib.Core.Path.{_≡_}
-use Rattle.event.specs.Table.{argumentCount, argumentRange, codeKnown, knownOf, openKnown, openOf}
+use Rattle.event.specs.Table.{argumentCount, argumentRange, codeInTrace, knownOf, knownInTrace, openKnown, openOf}
 use Rattle.event.specs.declared.Range.{Range}
 use Rattle.event.specs.declared.Event.{Event}
 use Rattle.event.specs.declared.Open.{Open}
@@ -11,9 +11,13 @@ use Rattle.event.specs.declared.Open.{Open}
 abbrev pub TellsKnown : Event → Bool → Type 0
 TellsKnown e r = r ≡ knownOf e
 
--- `code_known` of a code
-abbrev pub TellsCodeKnown : ℕ → Bool → Type 0
-TellsCodeKnown code r = r ≡ codeKnown code
+-- `known_in_trace` of an event
+abbrev pub TellsKnownInTrace : Event → Bool → Type 0
+TellsKnownInTrace e r = r ≡ knownInTrace e
+
+-- `code_in_trace` of a code
+abbrev pub TellsCodeInTrace : ℕ → Bool → Type 0
+TellsCodeInTrace code r = r ≡ codeInTrace code
 
 -- `argument_count` of a code
 abbrev pub CountsArguments : ℕ → ℕ → Type 0

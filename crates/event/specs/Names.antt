@@ -1,4 +1,4 @@
--- The paper's numbers of the phy's events.
+-- The paper's numbers of the phy's events, and of the time stamp that a recorder writes among them.
 use Prim.Native.Nat.{ℕ, _-_, _^_}
 
 -- ---- protocols
@@ -59,6 +59,9 @@ hardReset = 14
 abbrev pub phyDisabled : ℕ
 phyDisabled = 15
 
+abbrev pub timeStamp : ℕ
+timeStamp = 16
+
 -- ---- limits of the arguments
 
 abbrev pub mostWait : ℕ
@@ -78,6 +81,9 @@ fastRate = 9
 
 abbrev pub mostReject : ℕ
 mostReject = 7
+
+abbrev pub mostCounter : ℕ
+mostCounter = 4294967295
 
 abbrev pub mostAddress : ℕ
 mostAddress = 2 ^ 64 - 1

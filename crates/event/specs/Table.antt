@@ -5,8 +5,8 @@ use mathlib.Core.List.{List, [], _∷_}
 use lib.Dec.{eqb, leb}
 use lib.ListN.{length, getD}
 use Rattle.table.specs.Choice.{Row, _⇒_, rows}
-use Rattle.event.specs.Names.{STP, txOpen, openReceived, openRejectReceived, phyDisabled, slowRate, fastRate}
-use Rattle.event.specs.Names.{mostTag, mostBlockedCount, mostWait, mostReject, mostAddress}
+use Rattle.event.specs.Names.{STP, txOpen, openReceived, openRejectReceived, phyDisabled, timeStamp, slowRate}
+use Rattle.event.specs.Names.{fastRate, mostTag, mostBlockedCount, mostWait, mostReject, mostCounter, mostAddress}
 use Rattle.event.specs.declared.Range.{Range}
 use Rattle.event.specs.declared.Event.{Event}
 use Rattle.event.specs.declared.Open.{Open}
@@ -30,9 +30,18 @@ openArguments = (0 to mostAddress) ∷ (0 to STP) ∷ []
 abbrev pub rejectArguments : List Range
 rejectArguments = (0 to mostReject) ∷ []
 
+-- time stamp: the recorder's counter of microseconds, of 32 bits
+abbrev pub stampArguments : List Range
+stampArguments = (0 to mostCounter) ∷ []
+
 -- the events that have arguments; the others have none
 abbrev pub argumentRows : List (Row (List Range))
-argumentRows = (txOpen ⇒ txOpenArguments) ∷ (openReceived ⇒ openArguments) ∷ (openRejectReceived ⇒ rejectArguments) ∷ []
+argumentRows =
+    (txOpen ⇒ txOpenArguments)
+    ∷ (openReceived ⇒ openArguments)
+    ∷ (openRejectReceived ⇒ rejectArguments)
+    ∷ (timeStamp ⇒ stampArguments)
+    ∷ []
 
 abbrev pub argumentsOf : (code : ℕ) → List Range
 argumentsOf code = rows code argumentRows []
@@ -53,12 +62,21 @@ argumentRange code i = rangeAt (argumentsOf code) i
 abbrev pub within : Range → ℕ → Bool
 within r v = leb (r .least) v && leb v (r .most)
 
--- codes 1 to 15
-abbrev pub codes : Range
-codes = txOpen to phyDisabled
+-- the codes of a phy's events: 1 to 15
+abbrev pub phyCodes : Range
+phyCodes = txOpen to phyDisabled
 
+-- those of a trace: a phy's, and the time stamp
+abbrev pub traceCodes : Range
+traceCodes = txOpen to timeStamp
+
+-- a code of a phy's event
 abbrev pub codeKnown : ℕ → Bool
-codeKnown code = within codes code
+codeKnown code = within phyCodes code
+
+-- a code that may stand in a trace
+abbrev pub codeInTrace : ℕ → Bool
+codeInTrace code = within traceCodes code
 
 -- the six arguments of an event of a code are in their ranges
 unfoldable pub argumentsKnown : (code a b c d e f : ℕ) → Bool
@@ -66,10 +84,19 @@ argumentsKnown code a b c d e f =
     within (argumentRange code 0) a && within (argumentRange code 1) b && within (argumentRange code 2) c
     && within (argumentRange code 3) d && within (argumentRange code 4) e && within (argumentRange code 5) f
 
--- an event is known: its code is, and its arguments are in their ranges
+-- an event's code is one of these, and its arguments are in their ranges
+abbrev pub knownAmong : (codes : Range) → Event → Bool
+knownAmong codes e =
+    within codes (e .code)
+    && argumentsKnown (e .code) (e .first) (e .second) (e .third) (e .fourth) (e .fifth) (e .sixth)
+
+-- an event that a phy knows
 unfoldable pub knownOf : Event → Bool
-knownOf e =
-    codeKnown (e .code) && argumentsKnown (e .code) (e .first) (e .second) (e .third) (e .fourth) (e .fifth) (e .sixth)
+knownOf e = knownAmong phyCodes e
+
+-- an event that may stand in a trace
+unfoldable pub knownInTrace : Event → Bool
+knownInTrace e = knownAmong traceCodes e
 
 -- the event of a code and of the arguments that it has; those that it lacks are zero
 abbrev pub eventOf : ℕ → List ℕ → Event
@@ -83,6 +110,10 @@ eventOf code vs =
       fifth = getD vs 4 0;
       sixth = getD vs 5 0;
     }
+
+-- the time stamp of a counter
+abbrev pub stampOf : (counter : ℕ) → Event
+stampOf counter = eventOf timeStamp (counter ∷ [])
 
 -- the Open that the arguments of a Tx Open make
 abbrev pub openOf : Event → Open

@@ -1,8 +1,13 @@
-// Events of the phy: their codes, and the one table of arguments, how many each event has and each one's
-// range.
+// Events of the phy and the time stamp that stands among them in a trace: their codes, and the one table
+// of arguments, how many each event has and each one's range.
 ghost use mathlib.Core.Path.{_≡_};
-ghost use Rattle.event.specs.Table.{txOpenArguments, openArguments, rejectArguments, rangeAt, argumentsKnown};
-ghost use Rattle.event.specs.Contracts.{CountsArguments, GivesRange, TellsCodeKnown, TellsKnown, TellsOpenKnown, MakesOpen};
+ghost use mathlib.Core.Bool.{_&&_};
+ghost use lib.Dec.{eqb, leb};
+ghost use mathlib.Core.List.{[], _∷_};
+ghost use Rattle.table.specs.Choice.{pick};
+ghost use Rattle.event.specs.Names.{timeStamp, mostCounter};
+ghost use Rattle.event.specs.Table.{_to_, txOpenArguments, openArguments, rangeAt, argumentsKnown};
+ghost use Rattle.event.specs.Contracts.{CountsArguments, GivesRange, TellsCodeInTrace, TellsKnown, TellsKnownInTrace, TellsOpenKnown, MakesOpen};
 
 // Protocols.
 pub const SMP: u64 = 0;
@@ -40,6 +45,8 @@ pub const HARD_RESET: u64 = 14;
 
 pub const PHY_DISABLED: u64 = 15;
 
+pub const TIME_STAMP: u64 = 16;
+
 // Limits of the arguments.
 pub const MOST_WAIT: u64 = 65535;
 
@@ -52,6 +59,8 @@ pub const SLOW_RATE: u64 = 8;
 pub const FAST_RATE: u64 = 9;
 
 pub const MOST_REJECT: u64 = 7;
+
+pub const MOST_COUNTER: u64 = 4294967295;
 
 pub const MOST_ADDRESS: u64 = 18446744073709551615;
 
@@ -87,6 +96,28 @@ pub struct Range {
 // The only value of an argument that the event lacks.
 const NONE: u64 = 0;
 
+// The time stamp, told by its range first. As an arm of its own it would make each choice by a code a jump
+// by a table, for which mixed events would pay.
+fn is_stamp(code: u64) -> bool
+    ensures { λ r. ⌜ r ≡ eqb code timeStamp ⌝ }
+{
+    if PHY_DISABLED < code {
+        return code == TIME_STAMP;
+    }
+    false
+}
+
+// The most of the first argument of an event that has no arm: of the time stamp its counter, else none.
+fn other_most(code: u64) -> u64
+    ensures { λ r. ⌜ r ≡ pick (eqb code timeStamp) mostCounter 0 ⌝ }
+{
+    if is_stamp(code) {
+        return MOST_COUNTER;
+    }
+    NONE
+}
+
+// How many arguments an event has: of those without an arm the time stamp alone has one.
 pub fn argument_count(code: u64) -> u64
     ensures { λ r. ⌜ CountsArguments code r ⌝ }
 {
@@ -94,7 +125,7 @@ pub fn argument_count(code: u64) -> u64
         TX_OPEN => 6,
         OPEN_RECEIVED => 2,
         OPEN_REJECT_RECEIVED => 1,
-        _ => 0,
+        _ => is_stamp(code) as u64,
     }
 }
 
@@ -152,14 +183,12 @@ fn open_range(i: u64) -> Range
     }
 }
 
-fn reject_range(i: u64) -> Range
-    ensures { λ r. ⌜ r ≡ rangeAt rejectArguments i ⌝ }
+// The range at a place of an event that has one argument at most.
+fn only_range(most: u64, i: u64) -> Range
+    ensures { λ r. ⌜ r ≡ rangeAt ((0 to most) ∷ []) i ⌝ }
 {
     match i {
-        0 => Range {
-            least: 0,
-            most: MOST_REJECT,
-        },
+        0 => Range { least: 0, most },
         _ => Range {
             least: 0,
             most: NONE,
@@ -174,18 +203,23 @@ pub fn argument_range(code: u64, i: u64) -> Range
     match code {
         TX_OPEN => tx_open_range(i),
         OPEN_RECEIVED => open_range(i),
-        OPEN_REJECT_RECEIVED => reject_range(i),
-        _ => Range {
-            least: 0,
-            most: NONE,
-        },
+        OPEN_REJECT_RECEIVED => only_range(MOST_REJECT, i),
+        _ => only_range(other_most(code), i),
     }
 }
 
-pub fn code_known(code: u64) -> bool
-    ensures { λ r. ⌜ TellsCodeKnown code r ⌝ }
+// Whether a code may stand in a trace.
+pub fn code_in_trace(code: u64) -> bool
+    ensures { λ r. ⌜ TellsCodeInTrace code r ⌝ }
 {
-    (TX_OPEN <= code) & (code <= PHY_DISABLED)
+    (TX_OPEN <= code) & (code <= TIME_STAMP)
+}
+
+// Whether the first argument is in its range, and the event has no other.
+fn only_known(most: u64, a: u64, b: u64, c: u64, d: u64, e: u64, f: u64) -> bool
+    ensures { λ r. ⌜ r ≡ (leb a most && leb b 0 && leb c 0 && leb d 0 && leb e 0 && leb f 0) ⌝ }
+{
+    (a <= most) & (b <= NONE) & (c <= NONE) & (d <= NONE) & (e <= NONE) & (f <= NONE)
 }
 
 // Whether six arguments are in the ranges of a code; any 64-bit number is an address, and is not tested.
@@ -201,18 +235,30 @@ fn arguments_known(code: u64, a: u64, b: u64, c: u64, d: u64, e: u64, f: u64) ->
                 & (f <= MOST_WAIT)
         }
         OPEN_RECEIVED => (b <= STP) & (c <= NONE) & (d <= NONE) & (e <= NONE) & (f <= NONE),
-        OPEN_REJECT_RECEIVED => {
-            (a <= MOST_REJECT) & (b <= NONE) & (c <= NONE) & (d <= NONE) & (e <= NONE) & (f <= NONE)
-        }
-        _ => (a <= NONE) & (b <= NONE) & (c <= NONE) & (d <= NONE) & (e <= NONE) & (f <= NONE),
+        OPEN_REJECT_RECEIVED => only_known(MOST_REJECT, a, b, c, d, e, f),
+        _ => only_known(other_most(code), a, b, c, d, e, f),
     }
 }
 
+// Whether a phy knows an event; a time stamp is none of its events.
 pub fn known(e: Event) -> bool
     ensures { λ r. ⌜ TellsKnown e r ⌝ }
 {
     let code = e.code;
-    code_known(code) & arguments_known(code, e.first, e.second, e.third, e.fourth, e.fifth, e.sixth)
+    if PHY_DISABLED < code {
+        return false;
+    }
+    (TX_OPEN <= code)
+        & arguments_known(code, e.first, e.second, e.third, e.fourth, e.fifth, e.sixth)
+}
+
+// Whether an event may stand in a trace.
+pub fn known_in_trace(e: Event) -> bool
+    ensures { λ r. ⌜ TellsKnownInTrace e r ⌝ }
+{
+    let code = e.code;
+    code_in_trace(code)
+        & arguments_known(code, e.first, e.second, e.third, e.fourth, e.fifth, e.sixth)
 }
 
 // An Open that is kept has its arguments in the ranges of a Tx Open.

@@ -8,7 +8,7 @@ use lib.ListN.{length}
 use Rattle.table.specs.Refusals.{badEvent}
 use Rattle.number.specs.Reading.{value, readNumber}
 use Rattle.number.specs.Reading as number
-use Rattle.event.specs.Table.{codeKnown}
+use Rattle.event.specs.Table.{codeInTrace}
 use Rattle.trace.specs.Reading.{end, refused, said, afterCode, readNumbers, readEvent}
 
 pub at-end : (s : List ℕ) (place : ℕ) → length s ≤ place → readEvent s place ≡ end
@@ -24,8 +24,8 @@ module _ (s : List ℕ) (place : ℕ) (h : place < length s) where
   code-fault e = rw (within-trace, e) refl
 
   module _ {code next : ℕ} (e : readNumber s place ≡ value code next) where
-    pub code-bad : codeKnown code ≡ false → readEvent s place ≡ refused badEvent place
+    pub code-bad : codeInTrace code ≡ false → readEvent s place ≡ refused badEvent place
     code-bad w = rw (within-trace, e, w) refl
 
-    pub code-good : codeKnown code ≡ true → readEvent s place ≡ said place (afterCode code s next)
+    pub code-good : codeInTrace code ≡ true → readEvent s place ≡ said place (afterCode code s next)
     code-good w = rw (within-trace, e, w) refl

@@ -9,8 +9,8 @@ use borrow.Author.Tests.{leb-true}
 use lib.Dec.{leb}
 use lib.ListN.{length, getD, List·getD-eq-default}
 use Rattle.table.proofs.Laws.{every, parts, one}
-use Rattle.event.specs.Names.{txOpen, phyDisabled}
-use Rattle.event.specs.Table.{eventOf, _to_, argumentRows, argumentsOf, argumentCount, rangeAt, argumentRange, within, codeKnown, argumentsKnown, knownOf}
+use Rattle.event.specs.Names.{txOpen, timeStamp}
+use Rattle.event.specs.Table.{eventOf, _to_, argumentRows, argumentsOf, argumentCount, rangeAt, argumentRange, within, codeInTrace, argumentsKnown, knownInTrace}
 use Rattle.event.specs.declared.Event.{Event}
 use Rattle.event.specs.declared.Range.{Range}
 use Rattle.event.proofs.Ranges.{fit, in-ranges}
@@ -28,7 +28,7 @@ Capped (r ∷ rs) = (r .most < 2 ^ 64) × Capped rs
 pub at-most-six : (code : ℕ) → length (argumentsOf code) ≤ 6
 at-most-six code =
     every (λ (l : List Range). length l ≤ 6) code argumentRows
-    (omega arith, (omega arith, (omega arith, tt)))
+    (omega arith, (omega arith, (omega arith, (omega arith, tt))))
     (omega arith)
 
 pub six-arguments : (code : ℕ) → argumentCount code ≤ 6
@@ -39,7 +39,7 @@ capped : (code : ℕ) → Capped (argumentsOf code)
 capped code =
     every Capped code argumentRows (
       (omega arith, (omega arith, (omega arith, (omega arith, (omega arith, (omega arith, tt)))))),
-      ((omega arith, (omega arith, tt)), ((omega arith, tt), tt)),
+      ((omega arith, (omega arith, tt)), ((omega arith, tt), ((omega arith, tt), tt))),
     )
     tt
 
@@ -71,17 +71,17 @@ abbrev pub sixOf : Event → List ℕ
 sixOf e = e .first ∷ e .second ∷ e .third ∷ e .fourth ∷ e .fifth ∷ e .sixth ∷ []
 
 pub record IsKnown (code : ℕ) (vs : List ℕ) : Type 0 where
-  pub coded : codeKnown code ≡ true
+  pub coded : codeInTrace code ≡ true
   pub ranged : AllWithin (argumentsOf code) vs
 
-module _ (e : Event) (k : knownOf e ≡ true) where
-  coded-of : codeKnown (e .code) ≡ true
-  unfolding knownOf
+module _ (e : Event) (k : knownInTrace e ≡ true) where
+  coded-of : codeInTrace (e .code) ≡ true
+  unfolding knownInTrace
   coded-of = parts _ _ k .0
 
   six-of : (n : ℕ) → one (fit (e .code) 0 (e .first) ∷ fit (e .code) 1 (e .second) ∷ fit (e .code) 2 (e .third) ∷ fit (e .code) 3 (e .fourth) ∷ fit (e .code) 4 (e .fifth) ∷ fit (e .code) 5 (e .sixth) ∷ []) n ≡ true
-  unfolding knownOf
-  six-of = in-ranges (e .code) (e .first) (e .second) (e .third) (e .fourth) (e .fifth) (e .sixth) (parts (codeKnown (e .code)) _ k .1)
+  unfolding knownInTrace
+  six-of = in-ranges (e .code) (e .first) (e .second) (e .third) (e .fourth) (e .fifth) (e .sixth) (parts (codeInTrace (e .code)) _ k .1)
 
   past-six : (n : ℕ) → 6 ≤ n → within (rangeAt (argumentsOf (e .code)) n) (getD (sixOf e) n 0) ≡ true
   past-six n h =
@@ -102,9 +102,9 @@ module _ (e : Event) (k : knownOf e ≡ true) where
 
   -- its code and its arguments are of 64 bits
   pub numbers-small : (n : ℕ) → getD (allNumbers e) n 0 < 2 ^ 64
-  numbers-small zero = omega (arith, leb-true (e .code) phyDisabled (parts (leb txOpen (e .code)) (leb (e .code) phyDisabled) coded-of .1))
+  numbers-small zero = omega (arith, leb-true (e .code) timeStamp (parts (leb txOpen (e .code)) (leb (e .code) timeStamp) coded-of .1))
   numbers-small (suc n) = small (e .code) (sixOf e) ranged-of n
 
-pub known-is : {code : ℕ} {vs : List ℕ} → IsKnown code vs → knownOf (eventOf code vs) ≡ true
-unfolding knownOf argumentsKnown argumentRange
+pub known-is : {code : ℕ} {vs : List ℕ} → IsKnown code vs → knownInTrace (eventOf code vs) ≡ true
+unfolding knownInTrace argumentsKnown argumentRange
 known-is i = join (i .coded) (join (join (join (join (join (i .ranged 0) (i .ranged 1)) (i .ranged 2)) (i .ranged 3)) (i .ranged 4)) (i .ranged 5))

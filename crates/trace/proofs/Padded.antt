@@ -8,7 +8,7 @@ use Rattle.table.proofs.Laws.{by-test}
 use Rattle.number.specs.Reading.{value, readNumber}
 use Rattle.number.proofs.Loops.{first-cut}
 use Rattle.number.proofs.Refusals.{read-moves-on}
-use Rattle.event.specs.Table.{eventOf, argumentsOf, within, codeKnown}
+use Rattle.event.specs.Table.{eventOf, argumentsOf, within, codeInTrace}
 use Rattle.event.specs.declared.Event.{Event}
 use Rattle.event.specs.declared.Range.{Range}
 use Rattle.trace.specs.Reading.{Told, event, end, Got, got, fault, onwards, arguments, readEvent, said}
@@ -50,7 +50,7 @@ module _ {s t : List ℕ} where
 pub read-alike : ReadAlike
 read-alike s t place at (at-ends h k) = rw (at-end s place h, at-end t at k) ends
 read-alike s t place at (in-both {v = v} e f r) =
-    by-test (codeKnown v)
+    by-test (codeInTrace v)
     (λ w. rw (code-good s place (inside s place e) e w, code-good t at (inside t at f) f w) (said-alike place at v (arguments-alike (argumentsOf v) r)))
     (λ w. rw (code-bad s place (inside s place e) e w, code-bad t at (inside t at f) f w) faults)
 read-alike s t place at (at-fault h k e f) = rw (code-fault s place h e, code-fault t at k f) faults

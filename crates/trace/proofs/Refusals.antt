@@ -12,7 +12,7 @@ use Rattle.table.proofs.Laws.{apart, by-test}
 use Rattle.number.specs.Reading.{value, readNumber}
 use Rattle.number.specs.Reading as number
 use Rattle.number.proofs.Refusals as number-laws
-use Rattle.event.specs.Table.{within, knownOf}
+use Rattle.event.specs.Table.{within, knownInTrace}
 use Rattle.event.specs.declared.Event.{Event}
 use Rattle.event.specs.declared.Range.{Range}
 use Rattle.trace.specs.Reading.{refused, fault, inRange, arguments, readEvent}
@@ -96,8 +96,8 @@ refused-not-wrote e = apart cc
 
 module _ (e : Event) (buffer : List ℕ) (place : ℕ) where
   -- by whether it is known and whether it fits
-  pub by-room : {A : Type 0} → (knownOf e ≡ false → A) → (knownOf e ≡ true → fits e buffer place ≡ false → A) → (knownOf e ≡ true → fits e buffer place ≡ true → A) → A
-  by-room a b c = by-test (knownOf e) (λ k. by-test (fits e buffer place) (c k) (b k)) a
+  pub by-room : {A : Type 0} → (knownInTrace e ≡ false → A) → (knownInTrace e ≡ true → fits e buffer place ≡ false → A) → (knownInTrace e ≡ true → fits e buffer place ≡ true → A) → A
+  by-room a b c = by-test (knownInTrace e) (λ k. by-test (fits e buffer place) (c k) (b k)) a
 
 pub writer-bad-event-exactly : WriterBadEventExactly
 writer-bad-event-exactly e buffer place = (

@@ -12,12 +12,13 @@ use Rattle.table.proofs.Laws.{apart}
 use Rattle.table.proofs.Stores.{stored-from}
 use Rattle.number.specs.Writing.{numberBytes}
 use Rattle.number.proofs.RoundTrip.{sized, read-wherever}
-use Rattle.event.specs.Table.{eventOf, argumentsOf, argumentCount, knownOf}
+use Rattle.event.specs.Table.{eventOf, argumentsOf, argumentCount, knownInTrace}
 use Rattle.event.specs.declared.Event.{Event}
 use Rattle.event.specs.declared.Range.{Range}
+use Rattle.event.proofs.InTrace.{in-trace-exactly}
 use Rattle.trace.specs.Reading.{event, end, got, arguments, readEvent}
 use Rattle.trace.specs.Writing.{wrote, bytesOf, eventBytes, traceBytes, writeEvent, bufferAfter}
-use Rattle.trace.specs.Laws.{ReadBack, OthersKept, ReadsAll, ended, taken, AllKnown, TraceBack, ReadsOnce}
+use Rattle.trace.specs.Laws.{ReadBack, OthersKept, ReadsAll, ended, taken, AllKnown, TraceBack, PhysAndStamps, StampsBack, ReadsOnce}
 use Rattle.trace.proofs.Known.{AllWithin, sixOf, is-known, numbers-small, lacks, small, at-most-six}
 use Rattle.trace.proofs.Numbers.{behind, inside}
 use Rattle.trace.proofs.ReadLoop.{kept, same-event}
@@ -49,7 +50,7 @@ parts : (e : Event) → eventBytes e ≡ numberBytes (e .code) ++ bytesOf (take 
 unfolding eventBytes bytesOf argumentCount
 parts e = refl
 
-module _ (e : Event) (k : knownOf e ≡ true) where
+module _ (e : Event) (k : knownInTrace e ≡ true) where
   abbrev count : ℕ
   count = length (argumentsOf (e .code))
 
@@ -91,7 +92,7 @@ wrote-is e = cc
 
 -- a length is told only of an event that is known and fits
 pub record Fits (e : Event) (buffer : List ℕ) (place n : ℕ) : Type 0 where
-  pub known : knownOf e ≡ true
+  pub known : knownInTrace e ≡ true
   pub room : place + length (eventBytes e) ≤ length buffer
   pub long : n ≡ length (eventBytes e)
   pub left : bufferAfter e buffer place ≡ sets buffer place (eventBytes e)
@@ -135,6 +136,14 @@ trace-back-from (e ∷ es) k s place h =
 
 pub trace-back : TraceBack
 trace-back es k = trace-back-from es k (traceBytes es) 0 refl
+
+-- such events may all stand in a trace
+stand : (es : List Event) → PhysAndStamps es → AllKnown es
+stand [] k = tt
+stand (e ∷ es) k = (in-trace-exactly e .1 (k .0), stand es (k .1))
+
+pub stamps-back : StampsBack
+stamps-back es k = trace-back es (stand es k)
 
 event-is : {e f : Event} {m n : ℕ} → event e m ≡ event f n → (e ≡ f) × (m ≡ n)
 event-is h = (cc, cc)

@@ -8,7 +8,7 @@ use Rattle.table.specs.Refusals.{badEvent}
 use Rattle.table.proofs.Laws.{by-test, by-order}
 use Rattle.number.specs.Reading.{value, readNumber}
 use Rattle.number.specs.Reading as number
-use Rattle.event.specs.Table.{eventOf, argumentsOf, within, codeKnown, codes}
+use Rattle.event.specs.Table.{eventOf, argumentsOf, within, codeInTrace, traceCodes}
 use Rattle.event.specs.declared.Range.{Range}
 use Rattle.trace.specs.Reading.{Told, event, end, refused, Got, got, fault, onwards, arguments, readEvent, said}
 use Rattle.trace.specs.Laws.{ArgumentsStand, none, one, Stands, Reaches, Comes}
@@ -53,17 +53,17 @@ WhyEvent s place end = length s ≤ place
 WhyEvent s place (refused n first) = (first ≡ place) × (range : Range) × (at : ℕ) × Comes s place range at × Stops s range at n
 
 module _ (s : List ℕ) (place : ℕ) (h : place < length s) where
-  why-rest : {code after : ℕ} → readNumber s place ≡ value code after → codeKnown code ≡ true → (g : Got (List ℕ)) → WhyArguments s (argumentsOf code) after g
+  why-rest : {code after : ℕ} → readNumber s place ≡ value code after → codeInTrace code ≡ true → (g : Got (List ℕ)) → WhyArguments s (argumentsOf code) after g
       → WhyEvent s place (said place (onwards g λ vs next. got (eventOf code vs) next))
   why-rest {code} {after} e w (got vs next) a = record { code = code; after = after; vs = vs; inside = h; reads = e; coded = w; rest = a; made = refl }
   why-rest e w (fault n) a = (refl, a .0, a .1, Comes.argument h e w (a .2), a .3)
 
   why-first : (t : number.Told) → readNumber s place ≡ t → WhyEvent s place (readEvent s place)
   why-first (value code after) e =
-      by-test (codeKnown code)
+      by-test (codeInTrace code)
       (λ w. rw (code-good s place h e w) (why-rest e w (arguments (argumentsOf code) s after) (why-arguments s (argumentsOf code) after)))
-      (λ w. rw (code-bad s place h e w) (refl, codes, place, Comes.code h, outside e w))
-  why-first (number.refused n) e = rw (code-fault s place h e) (refl, codes, place, Comes.code h, unread e)
+      (λ w. rw (code-bad s place h e w) (refl, traceCodes, place, Comes.code h, outside e w))
+  why-first (number.refused n) e = rw (code-fault s place h e) (refl, traceCodes, place, Comes.code h, unread e)
 
 pub because : (s : List ℕ) (place : ℕ) {t : Told} → readEvent s place ≡ t → WhyEvent s place t
 because s place e =

@@ -15,7 +15,7 @@ use Rattle.number.specs.Contracts.{WritesNumber}
 use Rattle.number.specs.declared.NumberWritten.the-variants as number-written
 use Rattle.number.proofs.RoundTrip.{sized}
 use Rattle.number.proofs.Refusals.{no-room-exactly}
-use Rattle.event.specs.Table.{argumentCount, knownOf}
+use Rattle.event.specs.Table.{argumentCount, knownInTrace}
 use Rattle.event.specs.declared.Event.{Event}
 use Rattle.trace.specs.Writing.{wrote, bytesOf, allNumbers, eventBytes, fits}
 use Rattle.trace.specs.Contracts.{WritesEvent}
@@ -29,7 +29,7 @@ pub record Sound (count : ℕ) (numbers : List ℕ) : Type 0 where
   pub seven : length numbers ≡ 7
   pub small : (k : ℕ) → getD numbers k 0 < 2 ^ 64
 
-pub sound : (e : Event) → knownOf e ≡ true → Sound (argumentCount (e .code)) (allNumbers e)
+pub sound : (e : Event) → knownInTrace e ≡ true → Sound (argumentCount (e .code)) (allNumbers e)
 sound e k = record { six = six-arguments (e .code); seven = refl; small = numbers-small e k }
 
 pub event-bytes : {e : Event} {count : ℕ} {numbers : List ℕ} → count ≡ argumentCount (e .code) → numbers ≡ allNumbers e → bytesOf (take (suc count) numbers) ≡ eventBytes e
@@ -128,10 +128,10 @@ module _ {count : ℕ} {numbers before : List ℕ} {place : ℕ} {buffer : List 
 
 -- ---- the contract: not known, known and without room, known and with room
 
-pub not-known : (e : Event) (before : List ℕ) (place : ℕ) → knownOf e ≡ false → WritesEvent e before place BadEvent before
+pub not-known : (e : Event) (before : List ℕ) (place : ℕ) → knownInTrace e ≡ false → WritesEvent e before place BadEvent before
 not-known e before place k = record { says = rw k refl; leaves = rw k refl }
 
-module _ (e : Event) (before : List ℕ) (place : ℕ) (k : knownOf e ≡ true) where
+module _ (e : Event) (before : List ℕ) (place : ℕ) (k : knownInTrace e ≡ true) where
   pub no-room : length before < place + length (eventBytes e) → WritesEvent e before place NoRoom before
   no-room h =
       let f : fits e before place ≡ false = lt-leb (place + length (eventBytes e)) (length before) h in

@@ -7,7 +7,7 @@ use lib.ListN.{length}
 use lib.Seq.{sets}
 use denote.Ref.{RefT, now}
 use Rattle.table.specs.Results.{Leaves}
-use Rattle.event.specs.Table.{knownOf}
+use Rattle.event.specs.Table.{knownInTrace}
 use Rattle.event.specs.declared.Event.{Event}
 use Rattle.trace.specs.Reading.{Told, afterCode, said, readEvent, placeReached, tells}
 use Rattle.trace.specs.Writing.{eventBytes, writeEvent, bufferAfter, tellsWritten}
@@ -29,7 +29,7 @@ ReachesPlace read place r = r ≡ placeReached place (tells read)
 
 -- what `write_numbers` asks: the event is known and its bytes fit
 pub record HasRoom (e : Event) (buffer : List ℕ) (place : ℕ) : Type 0 where
-  pub known : knownOf e ≡ true
+  pub known : knownInTrace e ≡ true
   pub room : place + length (eventBytes e) ≤ length buffer
 
 -- `write_numbers` of an event into the buffer `before` at a place, which leaves it as `after`

@@ -12,7 +12,8 @@ use Rattle.table.specs.Results.{TellsOnce, Determines, DeterminesLent}
 use Rattle.number.specs.Reading.{value, readNumber}
 use Rattle.number.specs.Reading as number
 use Rattle.number.specs.Laws.{EndsEarly, TenthTooLarge}
-use Rattle.event.specs.Table.{eventOf, argumentsOf, within, codeKnown, knownOf, codes}
+use Rattle.event.specs.Table.{eventOf, argumentsOf, within, codeInTrace, knownOf, knownInTrace, traceCodes}
+use Rattle.event.specs.Laws.{IsStamp}
 use Rattle.event.specs.declared.Event.{Event}
 use Rattle.event.specs.declared.Range.{Range}
 use Rattle.trace.specs.Reading.{event, end, readEvent, eventGiven, placeReached, tells}
@@ -67,7 +68,7 @@ pub record Stands (s : List ℕ) (place : ℕ) (e : Event) (next : ℕ) : Type 0
   pub vs : List ℕ
   pub inside : place < length s
   pub reads : readNumber s place ≡ value code after
-  pub coded : codeKnown code ≡ true
+  pub coded : codeInTrace code ≡ true
   pub rest : ArgumentsStand s (argumentsOf code) after vs next
   pub made : e ≡ eventOf code vs
 
@@ -78,7 +79,7 @@ EventExactly =
 
 -- an event read is one that `known` accepts
 abbrev pub ReadKnown : Type 0
-ReadKnown = (s : List ℕ) (place : ℕ) (e : Event) (next : ℕ) → readEvent s place ≡ event e next → knownOf e ≡ true
+ReadKnown = (s : List ℕ) (place : ℕ) (e : Event) (next : ℕ) → readEvent s place ≡ event e next → knownInTrace e ≡ true
 
 -- so the writer does not refuse it with 2
 abbrev pub ReadWritten : Type 0
@@ -106,10 +107,10 @@ pub data Reaches (s : List ℕ) : List Range → ℕ → Range → ℕ → Type 
 
 -- reading an event reaches the number at `at`, of the range `range`: its code, or an argument of a known code
 pub data Comes (s : List ℕ) (place : ℕ) : Range → ℕ → Type 0 where
-  code : place < length s → Comes s place codes place
+  code : place < length s → Comes s place traceCodes place
   argument :
       {code next : ℕ} {range : Range} {at : ℕ}
-      → place < length s → readNumber s place ≡ value code next → codeKnown code ≡ true
+      → place < length s → readNumber s place ≡ value code next → codeInTrace code ≡ true
       → Reaches s (argumentsOf code) next range at → Comes s place range at
 
 -- a number that the reader reaches, with a fault in its bytes
@@ -166,14 +167,14 @@ EndExactly = (s : List ℕ) (place : ℕ) → readEvent s place ≡ end ↔ (len
 abbrev pub WriterBadEventExactly : Type 0
 WriterBadEventExactly =
     (e : Event) (buffer : List ℕ) (place : ℕ)
-    → writeEvent e buffer place ≡ writing.refused badEvent ↔ (knownOf e ≡ false)
+    → writeEvent e buffer place ≡ writing.refused badEvent ↔ (knownInTrace e ≡ false)
 
 -- 10: the event is known, and its bytes do not fit between the place and the buffer's end
 abbrev pub NoRoomExactly : Type 0
 NoRoomExactly =
     (e : Event) (buffer : List ℕ) (place : ℕ)
     → writeEvent e buffer place ≡ writing.refused noRoom
-    ↔ ((knownOf e ≡ true) × (length buffer < place + length (eventBytes e)))
+    ↔ ((knownInTrace e ≡ true) × (length buffer < place + length (eventBytes e)))
 
 -- refused, the length is 0 and the buffer is as it was
 abbrev pub RefusedKeeps : Type 0
@@ -200,11 +201,20 @@ pub data ReadsAll (s : List ℕ) : ℕ → List Event → Type 0 where
 -- each event is known
 abbrev pub AllKnown : List Event → Type 0
 AllKnown [] = Unit
-AllKnown (e ∷ es) = (knownOf e ≡ true) × AllKnown es
+AllKnown (e ∷ es) = (knownInTrace e ≡ true) × AllKnown es
 
 -- known events written end to end are read back to the same list
 abbrev pub TraceBack : Type 0
 TraceBack = (es : List Event) → AllKnown es → ReadsAll (traceBytes es) 0 es
+
+-- each event is one that a phy knows, or a time stamp
+abbrev pub PhysAndStamps : List Event → Type 0
+PhysAndStamps [] = Unit
+PhysAndStamps (e ∷ es) = ((knownOf e ≡ true) ⊎ IsStamp e) × PhysAndStamps es
+
+-- so a trace with stamps among a phy's events is read back
+abbrev pub StampsBack : Type 0
+StampsBack = (es : List Event) → PhysAndStamps es → ReadsAll (traceBytes es) 0 es
 
 -- a trace is read to one list of events only
 abbrev pub ReadsOnce : Type 0

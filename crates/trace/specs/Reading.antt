@@ -7,7 +7,7 @@ use Rattle.table.specs.Choice.{pick}
 use Rattle.table.specs.Refusals.{badEvent, cut, tooLarge}
 use Rattle.number.specs.Reading.{value, readNumber}
 use Rattle.number.specs.Reading as number
-use Rattle.event.specs.Table.{eventOf, argumentsOf, within, codes}
+use Rattle.event.specs.Table.{eventOf, argumentsOf, within, traceCodes}
 use Rattle.event.specs.declared.Event.{Event}
 use Rattle.event.specs.declared.Range.{Range}
 use Rattle.trace.specs.declared.EventRead.{EventRead}
@@ -51,7 +51,7 @@ afterCode code s place = onwards (arguments (argumentsOf code) s place) λ vs ne
 
 -- the numbers of an event: its code, and its arguments once the code is known
 abbrev pub readNumbers : List ℕ → ℕ → Got Event
-readNumbers s place = onwards (inRange codes s place) λ code next. afterCode code s next
+readNumbers s place = onwards (inRange traceCodes s place) λ code next. afterCode code s next
 
 -- a fault is told with the place of the event's first byte
 abbrev pub said : (place : ℕ) → Got Event → Told

@@ -8,7 +8,7 @@ use lib.Seq.{sets}
 use Rattle.table.specs.Choice.{pick}
 use Rattle.table.specs.Refusals.{badEvent, noRoom}
 use Rattle.number.specs.Writing.{numberBytes}
-use Rattle.event.specs.Table.{argumentCount, knownOf}
+use Rattle.event.specs.Table.{argumentCount, knownInTrace}
 use Rattle.event.specs.declared.Event.{Event}
 use Rattle.trace.specs.declared.EventWritten.{EventWritten}
 use Rattle.trace.specs.declared.EventWritten.the-variants.{Length, BadEvent, NoRoom}
@@ -47,12 +47,13 @@ fits e buffer place = leb (place + length (eventBytes e)) (length buffer)
 -- what the writer says: an event that is not known is refused first
 abbrev pub writeEvent : Event → List ℕ → ℕ → ToldWritten
 writeEvent e buffer place =
-    pick (knownOf e) (pick (fits e buffer place) (wrote (length (eventBytes e))) (refused noRoom)) (refused badEvent)
+    pick (knownInTrace e) (pick (fits e buffer place) (wrote (length (eventBytes e))) (refused noRoom))
+    (refused badEvent)
 
 -- the buffer afterwards: the bytes of the event at the place, all others as before; refused, nothing is written
 abbrev pub bufferAfter : Event → List ℕ → ℕ → List ℕ
 bufferAfter e buffer place =
-    pick (knownOf e) (pick (fits e buffer place) (sets buffer place (eventBytes e)) buffer) buffer
+    pick (knownInTrace e) (pick (fits e buffer place) (sets buffer place (eventBytes e)) buffer) buffer
 
 -- the length that is given: refused, it is 0
 abbrev pub lengthGiven : ToldWritten → ℕ

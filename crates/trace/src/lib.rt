@@ -3,7 +3,7 @@
 ghost use mathlib.Core.Bool.{true};
 ghost use mathlib.Core.Path.{_≡_};
 ghost use lib.ListN.{length};
-ghost use Rattle.event.specs.Table.{knownOf};
+ghost use Rattle.event.specs.Table.{knownInTrace};
 ghost use Rattle.trace.specs.Writing.{allNumbers, eventBytes};
 ghost use Rattle.trace.specs.Contracts.{ReadsArguments, ReadsEvent, ReachesPlace, StartsReader, TakesNext};
 ghost use Rattle.trace.specs.Contracts.{HasRoom, FillsBuffer, WritesEvent};
@@ -84,7 +84,7 @@ pub fn event_at(trace: &[u8], place: usize) -> EventRead
     match number::read_number(trace, place) {
         NumberRead::Value { value, next } => {
             // An unknown code has no arguments to read.
-            if event::code_known(value) {
+            if event::code_in_trace(value) {
                 read_arguments(trace, value, next, place)
             } else {
                 EventRead::BadEvent(place)
@@ -142,7 +142,7 @@ fn all_numbers(e: Event) -> [u64; 7]
 
 // How many bytes a known event takes.
 fn event_length(e: Event) -> usize
-    requires { ⌜ knownOf e ≡ true ⌝ }
+    requires { ⌜ knownInTrace e ≡ true ⌝ }
     ensures { λ r. ⌜ r ≡ length (eventBytes e) ⌝ }
 {
     let code = e.code;
@@ -183,7 +183,7 @@ fn write_numbers(e: Event, buffer: &mut [u8], place: usize)
 pub fn write_event(e: Event, buffer: &mut [u8], place: usize) -> EventWritten
     ensures { λ r. ⌜ WritesEvent e (now (buffer .entry)) place r (now (buffer .exit)) ⌝ }
 {
-    if event::known(e) {
+    if event::known_in_trace(e) {
         let length = event_length(e);
         if buffer.len() < place {
             return EventWritten::NoRoom;

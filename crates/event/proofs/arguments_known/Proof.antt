@@ -2,9 +2,8 @@
 use native.Mathlib.Omega.{arith}
 use borrow.Author.Tests.{le-leb}
 use lib.Dec.{leb·zero}
-use mathlib.Core.List.{[]}
-use Rattle.table.proofs.Laws.{unlisted}
-use Rattle.event.specs.Table.{argumentRows, argumentRange, argumentsKnown}
+use Rattle.event.specs.Table.{argumentRange, argumentsKnown}
+use Rattle.event.proofs.Others.{other-known}
 use Rattle.event.proofs.arguments_known.Statement.{statement}
 use Rattle.event.proofs.arguments_known.Tie as tie
 
@@ -13,7 +12,8 @@ unfolding argumentsKnown argumentRange
 arguments-known-spec =
     tie.close
     (tie.spec
+    (λ _ _. tt) (λ _ _. tt) (λ _ _. tt)
     (λ c. simp (c .match .keys1, leb·zero, le-leb (c .before .args .a) 18446744073709551615 (omega arith)))
     (λ c. simp (c .match .keys2, leb·zero, le-leb (c .before .args .a) 18446744073709551615 (omega arith)))
-    (λ c. simp (c .match .keys3, leb·zero))
-    (λ c. rw (unlisted _ argumentRows [] (c .match .rest)) (simp (leb·zero))))
+    (λ c. simp (c .only-known .ensures, c .before .match .keys3, leb·zero))
+    (λ c. rw (c .only-known2 .ensures, c .before .other-most .ensures) (other-known _ (c .before .before .match .rest) _ _ _ _ _ _)))

@@ -12,14 +12,14 @@ returns-2 c =
     ∙ sym
     (code-good _ _ (c .before .before .before .before .before .before .before .if1 .left)
     (sym (c .before .before .before .before .before .before .read-number .ensures) ∙ ap tells (c .before .before .before .before .value .given .1))
-    (sym (c .before .before .code-known .ensures) ∙ c .before .if2 .taken))
+    (sym (c .before .before .code-in-trace .ensures) ∙ c .before .if2 .taken))
 
 returns-3 : tie.Need-returns-3
 returns-3 c =
     sym
     (code-bad _ _ (c .before .before .before .before .before .before .if1 .left)
     (sym (c .before .before .before .before .before .read-number .ensures) ∙ ap tells (c .before .before .before .value .given .1))
-    (sym (c .before .code-known .ensures) ∙ c .if2 .left))
+    (sym (c .before .code-in-trace .ensures) ∙ c .if2 .left))
 
 pub event-at-spec : {M : Type 1} → statement M
 event-at-spec =
