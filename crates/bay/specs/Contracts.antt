@@ -1,0 +1,30 @@
+-- What each public function promises, cited by its `ensures` and by `Determined` in Laws.
+use Prim.Native.Nat.{ℕ}
+use mathlib.Core.Bool.{Bool}
+use mathlib.Core.Path.{_≡_}
+use Rattle.event.specs.Table.{stampOf}
+use Rattle.event.specs.declared.Event.{Event}
+use Rattle.bay.specs.State.{validOf, freshBay}
+use Rattle.bay.specs.Step.{lastNotice, stepOf}
+use Rattle.bay.specs.declared.Bay.{Bay}
+use Rattle.bay.specs.declared.Stepped.{Stepped}
+
+-- `fresh`
+abbrev pub StartsFresh : Bay → Type 0
+StartsFresh r = r ≡ freshBay
+
+-- `valid` of a bay
+abbrev pub TellsValid : Bay → Bool → Type 0
+TellsValid b r = r ≡ validOf b
+
+-- `step` of any bay and any event
+abbrev pub Steps : Bay → Event → Stepped → Type 0
+Steps b e r = r ≡ stepOf b e
+
+-- `stamped` of any bay and any counter
+abbrev pub TakesStamp : Bay → ℕ → Stepped → Type 0
+TakesStamp b counter r = r ≡ stepOf b (stampOf counter)
+
+-- `last_notice` of what a step gave
+abbrev pub GivesLast : Stepped → ℕ → Type 0
+GivesLast stepped r = r ≡ lastNotice stepped

@@ -1,0 +1,7 @@
+pub mod Ticks
+pub mod AtMost
+pub mod Rest
+pub mod Steps
+pub mod Refusals
+pub mod Bytes
+pub mod Spelled

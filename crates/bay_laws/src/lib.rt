@@ -1,0 +1,1 @@
+// Laws of a bay's steps and gaps: definitions and proofs alone, and no code.
