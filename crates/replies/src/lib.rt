@@ -8,6 +8,7 @@ ghost use Rattle.trace.specs.Writing.{tellsWritten as Trace·tellsWritten};
 ghost use Rattle.run.specs.Running.{tellsStop};
 ghost use Rattle.replies.specs.Replies.{noNumber, numberReply, numberWritten, noEvent, eventReply, eventWritten, atNoFault, faultAt, stopReply};
 ghost use Rattle.replies.specs.Contracts.{ReadsNumber, WritesNumber, ReadsEvent, WritesEvent, Runs};
+use bay::Bay;
 use event::Event;
 use number::NumberRead;
 use number::NumberWritten;
@@ -49,9 +50,10 @@ pub struct StopReply {
     pub refusal: u64,
 }
 
+// What a run gives: the phy with its recorder's clock.
 #[repr(C)]
 pub struct RunReply {
-    pub next: Phy,
+    pub next: Bay,
     pub count: usize,
     pub stop: StopReply,
 }

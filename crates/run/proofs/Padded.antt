@@ -10,8 +10,8 @@ use Rattle.event.specs.declared.Event.{Event}
 use Rattle.trace.specs.Reading as reading
 use Rattle.trace.specs.Laws.{SameNumbers, at-ends, in-both, at-fault, Alike, events, ends, faults}
 use Rattle.trace.proofs.Padded.{inside, read-alike}
-use Rattle.phy.specs.Step.{stepOf}
-use Rattle.ledger.specs.Log as log
+use Rattle.bay.specs.State.{unstamped}
+use Rattle.bay.specs.Log as log
 use Rattle.run.specs.Running.{Course, onwards, taking, bytesOf}
 use Rattle.run.specs.Laws.{StopAlike, same, elsewhere, PaddedRun}
 use Rattle.run.proofs.Refusals.{by-tests}
@@ -44,7 +44,7 @@ padded-run p s t budget buffer r =
     (λ v l. record { count = rw (v, l) refl; state = rw (v, l) refl; halt = rw (v, l) same; bytes = rw (v, l) refl })
     (λ v l. record {
       count = rw (v, l) (ap length (a .0));
-      state = rw (v, l) (ap (log.after stepOf p) (a .0));
+      state = rw (v, l) (ap (log.after (unstamped p)) (a .0));
       halt = rw (v, l) (a .1);
-      bytes = rw (v, l) (ap (λ (es : List Event). sets buffer 0 (bytesOf p es)) (a .0));
+      bytes = rw (v, l) (ap (λ (es : List Event). sets buffer 0 (bytesOf (unstamped p) es)) (a .0));
     })

@@ -13,7 +13,7 @@ use Rattle.trace.specs.Reading.{readEvent}
 use Rattle.trace.proofs.Refusals.{writer-bad-event-exactly}
 use Rattle.phy.specs.State.{validOf}
 use Rattle.phy.specs.declared.Phy.{Phy}
-use Rattle.phy_laws.proofs.Refusals.{bad-event-exactly}
+use Rattle.bay_laws.proofs.Refusals.{bad-event-exactly}
 use Rattle.run.specs.Running.{Halt, atEnd, atBudget, atFault, refused, Course, onwards, taking}
 use Rattle.run.specs.Laws.{BadStateExactly, NoRoomExactly, AsTheWriter, RefusedKeeps}
 
@@ -74,10 +74,10 @@ refused-keeps p s budget buffer n h =
     (λ v r. record { none-taken = rw (v, r) refl; same-state = rw (v, r) refl; same-bytes = rw (v, r) refl })
     (λ v r. absurd (let z = ap numberOf (rw (v, r) at h) in omega (arith, refuses-none budget s 0)))
 
--- ---- a bad event: the phy and the writer read the same table of arguments
+-- ---- a bad event: the bay and the writer read the same table of arguments
 
 pub as-the-writer : AsTheWriter
-as-the-writer p e buffer place v =
-    let steps = bad-event-exactly p e in
+as-the-writer b e buffer place v =
+    let steps = bad-event-exactly b e in
     let writes = writer-bad-event-exactly e buffer place in
     (λ q. writes .1 (steps .0 q .1), λ q. steps .1 (v, writes .0 q))

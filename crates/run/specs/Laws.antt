@@ -16,11 +16,15 @@ use Rattle.trace.specs.Writing.{writeEvent}
 use Rattle.trace.specs.Laws.{Passes, ReadsAll, SameNumbers}
 use Rattle.phy.specs.Shapes.{freshPhy}
 use Rattle.phy.specs.State.{validOf}
-use Rattle.phy.specs.Step.{stepOf}
 use Rattle.phy.specs.declared.Phy.{Phy}
 use Rattle.phy_laws.specs.Waiting.{isAnswer}
-use Rattle.ledger.specs.Log.{Entry, log, accepted, answered, many}
-use Rattle.ledger.specs.Demand.{logOf, oneIfWaiting, Lawful}
+use Rattle.ledger.specs.Demand.{oneIfWaiting}
+use Rattle.bay.specs.State as bay
+use Rattle.bay.specs.State.{unstamped, freshBay}
+use Rattle.bay.specs.Step.{stepOf}
+use Rattle.bay.specs.Log.{log}
+use Rattle.bay.specs.declared.Bay.{Bay}
+use Rattle.bay_laws.specs.Spelled.{Answer, bayOpens, bayAnswers, Alike}
 use Rattle.run.specs.Running.{Halt, atEnd, atBudget, atFault, refused, Course, taking, bytesOf, runOf}
 use Rattle.run.specs.Running.{bufferAfter, tellsStop, tells}
 use Rattle.run.specs.Contracts.{Runs}
@@ -47,16 +51,16 @@ NoRoomExactly =
     (p : Phy) (s : List ℕ) (budget : ℕ) (buffer : List ℕ)
     → runOf p s budget buffer .halt ≡ refused noRoom ↔ ((validOf p ≡ true) × (length buffer < budget))
 
--- 2, of an event: a valid phy refuses with 2 what the trace's writer refuses with 2, and so no event that was read
+-- 2, of an event: a valid bay refuses with 2 what the trace's writer refuses with 2, and so no event that was read
 abbrev pub AsTheWriter : Type 0
 AsTheWriter =
-    (p : Phy) (e : Event) (buffer : List ℕ) (place : ℕ) → validOf p ≡ true
-    → stepOf p e .refusal ≡ badEvent ↔ (writeEvent e buffer place ≡ writing.refused badEvent)
+    (b : Bay) (e : Event) (buffer : List ℕ) (place : ℕ) → bay.validOf b ≡ true
+    → stepOf b e .refusal ≡ badEvent ↔ (writeEvent e buffer place ≡ writing.refused badEvent)
 
--- refused, nothing is taken, the state is as given and the buffer as it was
+-- refused, nothing is taken, the phy is as given, its base not set, and the buffer as it was
 pub record Untouched (p : Phy) (s : List ℕ) (budget : ℕ) (buffer : List ℕ) : Type 0 where
   pub none-taken : runOf p s budget buffer .count ≡ 0
-  pub same-state : runOf p s budget buffer .state ≡ p
+  pub same-state : runOf p s budget buffer .state ≡ unstamped p
   pub same-bytes : bufferAfter p s budget buffer ≡ buffer
 
 abbrev pub RefusedKeeps : Type 0
@@ -107,7 +111,8 @@ WritesOnlyTaken = (p : Phy) (s : List ℕ) (budget : ℕ) (buffer : List ℕ) �
 abbrev pub WritesTaken : Type 0
 WritesTaken =
     (p : Phy) (s : List ℕ) (budget : ℕ) (buffer : List ℕ) → validOf p ≡ true → budget ≤ length buffer
-    → take (runOf p s budget buffer .count) (bufferAfter p s budget buffer) ≡ bytesOf p (taking budget s 0 .events)
+    → take (runOf p s budget buffer .count) (bufferAfter p s budget buffer)
+    ≡ bytesOf (unstamped p) (taking budget s 0 .events)
 
 -- a longer buffer changes nothing but its own later bytes, which are kept
 pub record SameLonger (p : Phy) (s : List ℕ) (budget : ℕ) (buffer more : List ℕ) : Type 0 where
@@ -127,7 +132,8 @@ NeitherOneNorTwo (b ∷ bs) = ((b ≡ badState → ⊥) × (b ≡ badEvent → �
 -- no byte written is 1 or 2: the phy stays valid, and an event read is known
 abbrev pub NoOneNorTwo : Type 0
 NoOneNorTwo =
-    (p : Phy) (s : List ℕ) (budget : ℕ) → validOf p ≡ true → NeitherOneNorTwo (bytesOf p (taking budget s 0 .events))
+    (p : Phy) (s : List ℕ) (budget : ℕ) → validOf p ≡ true
+    → NeitherOneNorTwo (bytesOf (unstamped p) (taking budget s 0 .events))
 
 -- ---- padded numbers (proofs/Padded)
 
@@ -155,26 +161,26 @@ abbrev pub answersIn : List ℕ → List ℕ
 answersIn [] = []
 answersIn (b ∷ bs) = pick (isAnswer b) (b ∷ answersIn bs) (answersIn bs)
 
--- the answers of a log, in order
-abbrev pub answersOf : List Entry → List ℕ
-answersOf [] = []
-answersOf (x ∷ xs) = pick (answered x) (x .result .answer ∷ answersOf xs) (answersOf xs)
+-- the codes of answers
+abbrev pub codesOf : List Answer → List ℕ
+codesOf [] = []
+codesOf (a ∷ others) = a .code ∷ codesOf others
 
 -- the bytes that are answers are the answers of the log of the same events
 abbrev pub AnswersInOrder : Type 0
-AnswersInOrder = (p : Phy) (es : List Event) → answersIn (bytesOf p es) ≡ answersOf (log stepOf p es)
+AnswersInOrder = (b : Bay) (es : List Event) → answersIn (bytesOf b es) ≡ codesOf (bayAnswers (log b es))
 
--- demand 3 of what a run of a fresh phy writes: accepted Opens equal the answers among the bytes plus the one, if any,
--- still waiting
+-- demand 3 of what a run of a fresh phy writes, a stamp's ticks counted as ticks: accepted Opens equal the answers
+-- among the bytes plus the one, if any, still waiting
 pub record LawfulRun (s : List ℕ) (budget : ℕ) (buffer : List ℕ) : Type 0 where
-  pub lawful : Lawful (taking budget s 0 .events)
+  pub lawful : Alike (taking budget s 0 .events)
   pub answers :
       answersIn (take (runOf freshPhy s budget buffer .count) (bufferAfter freshPhy s budget buffer))
-      ≡ answersOf (logOf (taking budget s 0 .events))
+      ≡ codesOf (bayAnswers (log freshBay (taking budget s 0 .events)))
   pub balance :
-      many accepted (logOf (taking budget s 0 .events))
+      length (bayOpens (log freshBay (taking budget s 0 .events)))
       ≡ length (answersIn (take (runOf freshPhy s budget buffer .count) (bufferAfter freshPhy s budget buffer)))
-      + oneIfWaiting (runOf freshPhy s budget buffer .state)
+      + oneIfWaiting (runOf freshPhy s budget buffer .state .phy)
 
 abbrev pub RunsLawful : Type 0
 RunsLawful = (s : List ℕ) (budget : ℕ) (buffer : List ℕ) → budget ≤ length buffer → LawfulRun s budget buffer

@@ -1,3 +1,4 @@
 pub mod Running
+pub mod Stages
 pub mod Contracts
 pub mod Laws

@@ -1,4 +1,4 @@
--- A run: the events that a trace gives under a budget, and what a phy makes of them.
+-- A run: the events that a trace gives under a budget, and what a phy makes of them, time stamps among them.
 use Prim.Native.Nat.{ℕ, zero, suc}
 use mathlib.Core.List.{List, [], _∷_}
 use lib.Dec.{eqb, leb}
@@ -10,10 +10,11 @@ use Rattle.event.specs.declared.Event.{Event}
 use Rattle.trace.specs.Reading as reading
 use Rattle.trace.specs.Reading.{readEvent}
 use Rattle.phy.specs.State.{validOf}
-use Rattle.phy.specs.Step.{stepOf}
 use Rattle.phy.specs.declared.Phy.{Phy}
-use Rattle.phy.specs.declared.Stepped.{Stepped}
-use Rattle.ledger.specs.Log.{Entry, log, after}
+use Rattle.bay.specs.State.{unstamped}
+use Rattle.bay.specs.Log.{Entry, log, after}
+use Rattle.bay.specs.declared.Bay.{Bay}
+use Rattle.bay.specs.declared.Stepped.{Stepped}
 use Rattle.run.specs.declared.Ran.{Ran}
 use Rattle.run.specs.declared.Stop.{Stop}
 use Rattle.run.specs.declared.Stop.the-variants.{End, Budget, BadEvent, Cut, TooLarge, BadState, NoRoom}
@@ -49,9 +50,13 @@ unfoldable pub taking : (budget : ℕ) → List ℕ → ℕ → Course
 taking zero s place = stops (pick (leb (length s) place) atEnd atBudget)
 taking (suc budget) s place = onwards (readEvent s place) (taking budget s)
 
--- the byte of a step: the refusal, or else the answer, or else 0
-unfoldable pub byteOf : Stepped → ℕ
-byteOf r = pick (eqb (r .refusal) 0) (r .answer) (r .refusal)
+-- a byte: the refusal, or else the answer, or else 0
+unfoldable pub byteFor : (refusal answer : ℕ) → ℕ
+byteFor refusal answer = pick (eqb refusal 0) answer refusal
+
+-- that of a step
+abbrev pub byteOf : Stepped → ℕ
+byteOf r = byteFor (r .refusal) (r .answer .code)
 
 -- one byte for each entry of a log
 abbrev pub bytesIn : List Entry → List ℕ
@@ -59,34 +64,38 @@ bytesIn [] = []
 bytesIn (x ∷ xs) = byteOf (x .result) ∷ bytesIn xs
 
 -- one byte for each event of a list
-abbrev pub bytesOf : Phy → List Event → List ℕ
-bytesOf p es = bytesIn (log stepOf p es)
+abbrev pub bytesOf : Bay → List Event → List ℕ
+bytesOf b es = bytesIn (log b es)
 
 -- what a run tells: the number of events taken, the state after them, and how it stopped
 pub record Told : Type 0 where
   pub count : ℕ
-  pub state : Phy
+  pub state : Bay
   pub halt : Halt
 
 -- these three
-abbrev pub told : (count : ℕ) → (state : Phy) → Halt → Told
+abbrev pub told : (count : ℕ) → (state : Bay) → Halt → Told
 told count state halt = record { count = count; state = state; halt = halt }
 
--- a valid phy takes every event of a course
-abbrev pub toldOf : Phy → Course → Told
-toldOf p c = told (length (c .events)) (after stepOf p (c .events)) (c .halt)
+-- a valid bay takes every event of a course
+abbrev pub toldOf : Bay → Course → Told
+toldOf b c = told (length (c .events)) (after b (c .events)) (c .halt)
 
--- a run of any phy: refused with 1, then with 10 where the buffer is shorter than the budget, it takes nothing
+-- a run of any phy, from a base that is not set: refused with 1, then with 10 where the buffer is shorter than the
+-- budget, it takes nothing
 abbrev pub runOf : Phy → List ℕ → (budget : ℕ) → (buffer : List ℕ) → Told
 runOf p s budget buffer =
-    pick (validOf p) (pick (leb budget (length buffer)) (toldOf p (taking budget s 0)) (told 0 p (refused noRoom)))
-    (told 0 p (refused badState))
+    pick (validOf p)
+    (pick (leb budget (length buffer)) (toldOf (unstamped p) (taking budget s 0))
+    (told 0 (unstamped p) (refused noRoom)))
+    (told 0 (unstamped p) (refused badState))
 
 -- the buffer afterwards: the bytes of the events taken, then what stood there; refused, nothing is written
 abbrev pub bufferAfter : Phy → List ℕ → (budget : ℕ) → (buffer : List ℕ) → List ℕ
 bufferAfter p s budget buffer =
     pick (validOf p)
-    (pick (leb budget (length buffer)) (sets buffer 0 (bytesOf p (taking budget s 0 .events))) buffer) buffer
+    (pick (leb budget (length buffer)) (sets buffer 0 (bytesOf (unstamped p) (taking budget s 0 .events))) buffer)
+    buffer
 
 -- what each way to stop says, as the paper numbers it
 abbrev pub tellsStop : Stop → Halt
