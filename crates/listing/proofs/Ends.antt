@@ -12,7 +12,7 @@ use Rattle.trace.specs.Reading.{Told, event, end, readEvent}
 use Rattle.trace.specs.Reading as reading
 use Rattle.trace.specs.Laws.{MovesOn}
 use Rattle.trace.proofs.Accepted.{read-moves-on}
-use Rattle.phy.specs.declared.Phy.{Phy}
+use Rattle.bay.specs.declared.Bay.{Bay}
 use Rattle.listing.specs.Lines.{mostLine}
 use Rattle.listing.specs.Listing.{Next, lineOf, noLine, afterReading, lineAt}
 use Rattle.listing.specs.Contracts.{wrote, finished, refused, fits, bytesOf, writeNext}
@@ -26,18 +26,18 @@ after-line s k {next = next} {progress = progress} e h =
     let same : next ≡ progress = cc in
     subst (λ (p : Progress). linesLeft s p < k) same h
 
-fall : (s : List ℕ) (place count : ℕ) (p : Phy) (t : Told) → readEvent s place ≡ t → {bytes : List ℕ} {next : Progress}
-    → afterReading place count p t ≡ lineOf bytes next → linesLeft s next < suc (length s - place)
-fall s place count p (event e after) h l =
+fall : (s : List ℕ) (place count : ℕ) (b : Bay) (t : Told) → readEvent s place ≡ t → {bytes : List ℕ} {next : Progress}
+    → afterReading place count b t ≡ lineOf bytes next → linesLeft s next < suc (length s - place)
+fall s place count b (event e after) h l =
     let m : MovesOn s place after = read-moves-on s place e after h in
     after-line s _ l (omega (arith, m .forward, m .within))
-fall s place count p end h l = after-line s _ l (omega arith)
-fall s place count p (reading.refused n at) h l = after-line s _ l (omega arith)
+fall s place count b end h l = after-line s _ l (omega arith)
+fall s place count b (reading.refused n at) h l = after-line s _ l (omega arith)
 
 pub lines-fall : LinesFall
 unfolding lineAt
 lines-fall s Header bytes next e = after-line s _ e (omega arith)
-lines-fall s (Events place count p) bytes next e = fall s place count p (readEvent s place) refl e
+lines-fall s (Events place count b) bytes next e = fall s place count b (readEvent s place) refl e
 lines-fall s TooLong bytes next e = after-line s _ e (omega arith)
 lines-fall s (Done whole) bytes next e = apart cc
 

@@ -14,9 +14,9 @@ use Rattle.trace.specs.Reading.{Told, event, end, readEvent}
 use Rattle.trace.specs.Reading as reading
 use Rattle.trace.specs.Laws.{ReadsAll}
 use Rattle.trace.specs.Laws as trace
-use Rattle.phy.specs.Step.{stepOf}
-use Rattle.phy.specs.Shapes.{freshPhy}
-use Rattle.phy.specs.declared.Phy.{Phy}
+use Rattle.bay.specs.Step.{stepOf}
+use Rattle.bay.specs.State.{freshBay}
+use Rattle.bay.specs.declared.Bay.{Bay}
 use Rattle.listing.specs.Listing.{mostTrace, lineOf, oneMore, afterReading, lineAt}
 use Rattle.listing.specs.Lines.{headerLine, tooLongLine}
 use Rattle.listing.specs.Laws.{Lines, over, more, WholeExactly}
@@ -55,28 +55,28 @@ not-whole f t = false≢true (sym f ∙ t)
 -- ---- from a place on
 
 by-reading :
-    {s : List ℕ} {place : ℕ} (count : ℕ) (p : Phy) {next : Progress} {whole : Bool} {bytes others : List ℕ} (t : Told)
-    → readEvent s place ≡ t → afterReading place count p t ≡ lineOf bytes next → Lines s next whole others
-    → ((after many : ℕ) (q : Phy) → next ≡ Events after many q → whole ≡ true ↔ Read s after) → whole ≡ true ↔ Read s place
-by-reading count p {next = next} (event v after) h e l f =
-    let to : Events after (oneMore count) (stepOf p v .next) ≡ next = cc in
-    let x = f after (oneMore count) (stepOf p v .next) (sym to) in
+    {s : List ℕ} {place : ℕ} (count : ℕ) (b : Bay) {next : Progress} {whole : Bool} {bytes others : List ℕ} (t : Told)
+    → readEvent s place ≡ t → afterReading place count b t ≡ lineOf bytes next → Lines s next whole others
+    → ((after many : ℕ) (c : Bay) → next ≡ Events after many c → whole ≡ true ↔ Read s after) → whole ≡ true ↔ Read s place
+by-reading count b {next = next} (event v after) h e l f =
+    let to : Events after (oneMore count) (stepOf b v .next) ≡ next = cc in
+    let x = f after (oneMore count) (stepOf b v .next) (sym to) in
     (λ w. after-event h (x .0 w), λ r. x .1 (others h (r .reads)))
-by-reading count p {next = next} end h e l f =
+by-reading count b {next = next} end h e l f =
     let done : Done true ≡ next = cc in
     (λ w. record { events = []; reads = trace.ended h }, λ r. after-last (sym done) l .1)
-by-reading count p {next = next} (reading.refused n at) h e l f =
+by-reading count b {next = next} (reading.refused n at) h e l f =
     let done : Done false ≡ next = cc in
     (λ w. absurd (not-whole (after-last (sym done) l .1) w), λ r. absurd (no-others h (r .reads)))
 
 from-place :
-    {s : List ℕ} {place count : ℕ} {p : Phy} {progress : Progress} {whole : Bool} {bytes : List ℕ}
-    → progress ≡ Events place count p → Lines s progress whole bytes → whole ≡ true ↔ Read s place
+    {s : List ℕ} {place count : ℕ} {b : Bay} {progress : Progress} {whole : Bool} {bytes : List ℕ}
+    → progress ≡ Events place count b → Lines s progress whole bytes → whole ≡ true ↔ Read s place
 unfolding lineAt
-from-place {s} {place} {count} {p} q (over e) =
-    absurd (something place count p (readEvent s place) (sym (ap (lineAt s) q) ∙ e))
-from-place {s} {place} {count} {p} q (more e l) =
-    by-reading count p (readEvent s place) refl (sym (ap (lineAt s) q) ∙ e) l (λ after many p′ r. from-place r l)
+from-place {s} {place} {count} {b} q (over e) =
+    absurd (something place count b (readEvent s place) (sym (ap (lineAt s) q) ∙ e))
+from-place {s} {place} {count} {b} q (more e l) =
+    by-reading count b (readEvent s place) refl (sym (ap (lineAt s) q) ∙ e) l (λ after many c r. from-place r l)
 
 -- ---- from the start on
 
@@ -86,7 +86,7 @@ whole-exactly s bytes whole l =
     by-test (leb (length s) mostTrace)
     (λ t.
     let lines : Lines s Header whole bytes = rw t at l in
-    let x = from-place refl (first-line {line = headerLine} {next = Events 0 0 freshPhy} refl lines .rest) in (
+    let x = from-place refl (first-line {line = headerLine} {next = Events 0 0 freshBay} refl lines .rest) in (
       λ w.
           let r = x .0 w in
           record { short = leb-true (length s) mostTrace t; events = r .events; read = r .reads },

@@ -12,11 +12,11 @@ use Rattle.trace.specs.Reading.{Told, event, end, readEvent}
 use Rattle.trace.specs.Reading as reading
 use Rattle.trace.specs.Laws.{MovesOn}
 use Rattle.trace.proofs.Accepted.{read-moves-on}
-use Rattle.phy.specs.Step.{stepOf}
-use Rattle.phy.specs.Shapes.{freshPhy}
-use Rattle.phy.specs.declared.Phy.{Phy}
+use Rattle.bay.specs.Step.{stepOf}
+use Rattle.bay.specs.State.{freshBay}
+use Rattle.bay.specs.declared.Bay.{Bay}
 use Rattle.listing.specs.Listing.{mostTrace, ListsFrom, ended, stopped, taken, Lists, listed, tooLong, Next, lineOf, noLine, startOf, oneMore, afterReading, lineAt}
-use Rattle.listing.specs.Lines.{headerLine, eventLine}
+use Rattle.listing.specs.Lines.{headerLine, columnsOf, eventLine}
 use Rattle.listing.specs.Laws.{linesLeft, Lines, over, more, LinesFrom, ListingExists, ListingOnce, LinesAreListing}
 use Rattle.listing.specs.declared.Progress.{Progress}
 use Rattle.listing.specs.declared.Progress.the-variants.{Header, Events, TooLong, Done}
@@ -27,10 +27,10 @@ pub no-line : {bytes : List ℕ} {next : Progress} {whole : Bool} → lineOf byt
 no-line e = apart cc
 
 -- and one comes of every place
-pub something : (place count : ℕ) (p : Phy) {whole : Bool} (t : Told) → afterReading place count p t ≡ noLine whole → ⊥
-something place count p (event v after) e = no-line e
-something place count p end e = no-line e
-something place count p (reading.refused n at) e = no-line e
+pub something : (place count : ℕ) (b : Bay) {whole : Bool} (t : Told) → afterReading place count b t ≡ noLine whole → ⊥
+something place count b (event v after) e = no-line e
+something place count b end e = no-line e
+something place count b (reading.refused n at) e = no-line e
 
 -- ---- the lines are a function of the progress, and end
 
@@ -123,46 +123,46 @@ module _ (s : List ℕ) (fits : length s ≤ mostTrace) where
   counted a = omega (arith, a .inside, a .few)
 
   to-lines :
-      {place count : ℕ} {p : Phy} {bytes : List ℕ} → At place count → ListsFrom s place count p bytes
-      → LinesFrom s (Events place count p) bytes
+      {place count : ℕ} {b : Bay} {bytes : List ℕ} → At place count → ListsFrom s place count b bytes
+      → LinesFrom s (Events place count b) bytes
   unfolding lineAt
-  to-lines {place} {count} {p} a (ended e) = last (ap (afterReading place count p) e)
-  to-lines {place} {count} {p} a (stopped e) = last (ap (afterReading place count p) e)
-  to-lines {place} {count} {p} a (taken {next = next} {e = v} {others = others} e l) =
-      then (ap (afterReading place count p) e)
-      (subst (λ (n : ℕ). LinesFrom s (Events next n (stepOf p v .next)) others) (sym (counted a)) (to-lines (next-at a e) l))
+  to-lines {place} {count} {b} a (ended e) = last (ap (afterReading place count b) e)
+  to-lines {place} {count} {b} a (stopped e) = last (ap (afterReading place count b) e)
+  to-lines {place} {count} {b} a (taken {next = next} {e = v} {others = others} e l) =
+      then (ap (afterReading place count b) e)
+      (subst (λ (n : ℕ). LinesFrom s (Events next n (stepOf b v .next)) others) (sym (counted a)) (to-lines (next-at a e) l))
 
-  module _ {place count : ℕ} (p : Phy) (a : At place count) where
+  module _ {place count : ℕ} (b : Bay) (a : At place count) where
     module _ {bytes others : List ℕ} {next : Progress} {whole : Bool} (l : Lines s next whole others) where
       -- a last line is the rest of the listing
       is-last :
-          {line : List ℕ} {told : Bool} → lineOf line (Done told) ≡ lineOf bytes next → ListsFrom s place count p line
-          → ListsFrom s place count p (bytes ++ others)
+          {line : List ℕ} {told : Bool} → lineOf line (Done told) ≡ lineOf bytes next → ListsFrom s place count b line
+          → ListsFrom s place count b (bytes ++ others)
       is-last {line} {told} e f =
           let same : line ≡ bytes = cc in
           let done : Done told ≡ next = cc in
           let none : [] ≡ others = sym (after-last (sym done) l .0) in
-          subst (ListsFrom s place count p) (same ∙ sym (append-nil bytes) ∙ ap (λ (b : List ℕ). bytes ++ b) none) f
+          subst (ListsFrom s place count b) (same ∙ sym (append-nil bytes) ∙ ap (λ (x : List ℕ). bytes ++ x) none) f
 
       by-reading :
-          (t : Told) → readEvent s place ≡ t → afterReading place count p t ≡ lineOf bytes next
-          → ((after more : ℕ) (q : Phy) → At after more → next ≡ Events after more q → ListsFrom s after more q others) → ListsFrom s place count p (bytes ++ others)
+          (t : Told) → readEvent s place ≡ t → afterReading place count b t ≡ lineOf bytes next
+          → ((after more : ℕ) (c : Bay) → At after more → next ≡ Events after more c → ListsFrom s after more c others) → ListsFrom s place count b (bytes ++ others)
       by-reading (event v after) h e f =
-          let same : eventLine place v (stepOf p v) ≡ bytes = cc in
-          let to : Events after (oneMore count) (stepOf p v .next) ≡ next = cc in
-          subst (λ (b : List ℕ). ListsFrom s place count p (b ++ others)) same
-          (taken h (f after (suc count) (stepOf p v .next) (next-at a h) (sym to ∙ ap (λ (n : ℕ). Events after n (stepOf p v .next)) (counted a))))
+          let same : eventLine place (columnsOf v (stepOf b v)) ≡ bytes = cc in
+          let to : Events after (oneMore count) (stepOf b v .next) ≡ next = cc in
+          subst (λ (x : List ℕ). ListsFrom s place count b (x ++ others)) same
+          (taken h (f after (suc count) (stepOf b v .next) (next-at a h) (sym to ∙ ap (λ (n : ℕ). Events after n (stepOf b v .next)) (counted a))))
       by-reading end h e f = is-last e (ended h)
       by-reading (reading.refused n at) h e f = is-last e (stopped h)
 
   from-lines :
-      {place count : ℕ} {p : Phy} {progress : Progress} {whole : Bool} {bytes : List ℕ}
-      → At place count → progress ≡ Events place count p → Lines s progress whole bytes → ListsFrom s place count p bytes
+      {place count : ℕ} {b : Bay} {progress : Progress} {whole : Bool} {bytes : List ℕ}
+      → At place count → progress ≡ Events place count b → Lines s progress whole bytes → ListsFrom s place count b bytes
   unfolding lineAt
-  from-lines {place} {count} {p} a q (over e) =
-      absurd (something place count p (readEvent s place) (sym (ap (lineAt s) q) ∙ e))
-  from-lines {place} {count} {p} a q (more e l) =
-      by-reading p a l (readEvent s place) refl (sym (ap (lineAt s) q) ∙ e) (λ after many p′ b r. from-lines b r l)
+  from-lines {place} {count} {b} a q (over e) =
+      absurd (something place count b (readEvent s place) (sym (ap (lineAt s) q) ∙ e))
+  from-lines {place} {count} {b} a q (more e l) =
+      by-reading b a l (readEvent s place) refl (sym (ap (lineAt s) q) ∙ e) (λ after many c w r. from-lines w r l)
 
   first : At 0 0
   first = record { inside = omega arith; few = omega arith }
@@ -170,7 +170,7 @@ module _ (s : List ℕ) (fits : length s ≤ mostTrace) where
   from-header : {whole : Bool} {bytes : List ℕ} → Lines s Header whole bytes → Lists s bytes
   unfolding lineAt
   from-header l =
-      let f = first-line {line = headerLine} {next = Events 0 0 freshPhy} refl l in
+      let f = first-line {line = headerLine} {next = Events 0 0 freshBay} refl l in
       subst (Lists s) (f .split) (listed fits (from-lines first refl (f .rest)))
 
   to-header : {bytes : List ℕ} → Lists s bytes → LinesFrom s Header bytes

@@ -45,7 +45,7 @@ NoRoomKeeps =
 -- how many lines may still come
 abbrev pub linesLeft : List ℕ → Progress → ℕ
 linesLeft s Header = suc (suc (length s))
-linesLeft s (Events place count p) = suc (length s - place)
+linesLeft s (Events place count b) = suc (length s - place)
 linesLeft s TooLong = 1
 linesLeft s (Done whole) = 0
 

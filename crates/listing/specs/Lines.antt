@@ -2,9 +2,11 @@
 use Prim.Native.Nat.{ℕ}
 use mathlib.Core.List.{List, [], _∷_, _++_}
 use Rattle.event.specs.declared.Event.{Event}
-use Rattle.phy.specs.declared.Stepped.{Stepped}
+use Rattle.bay.specs.Step.{lastNotice}
+use Rattle.bay.specs.declared.Stepped.{Stepped}
 use Rattle.output.specs.Writing.{newline, more, line}
 use Rattle.listing.specs.Words.{ascii}
+use Rattle.listing.specs.declared.Columns.{Columns}
 
 -- no line of numbers below 2^64 is longer: eight numbers of twenty digits, each with the byte after it
 abbrev pub mostLine : ℕ
@@ -14,10 +16,23 @@ mostLine = 168
 abbrev pub headerLine : List ℕ
 headerLine = ascii "place event refusal answer notice sent link port\n"
 
--- an event whose first byte is at a place, and what its step gave: the codes, and link and port after it
-abbrev pub eventLine : (place : ℕ) → Event → Stepped → List ℕ
-eventLine place e s =
-    line place (e .code ∷ s .refusal ∷ s .answer ∷ s .notice ∷ s .sent ∷ s .next .link ∷ s .next .port ∷ [])
+-- what stands in them of an event and its step: the codes, of two notices the last, and link and port after it
+abbrev pub columnsOf : Event → Stepped → Columns
+columnsOf e s =
+    record {
+      event = e .code;
+      refusal = s .refusal;
+      answer = s .answer .code;
+      notice = lastNotice s;
+      sent = s .sent .code;
+      link = s .next .phy .link;
+      port = s .next .phy .port;
+    }
+
+-- an event whose first byte is at a place
+abbrev pub eventLine : (place : ℕ) → Columns → List ℕ
+eventLine place c =
+    line place (c .event ∷ c .refusal ∷ c .answer ∷ c .notice ∷ c .sent ∷ c .link ∷ c .port ∷ [])
 
 -- a number behind each of two words
 abbrev pub lastLine : (word : List ℕ) → (place : ℕ) → (other : List ℕ) → (n : ℕ) → List ℕ

@@ -1,4 +1,4 @@
-// The listing of a trace, line by line: what a fresh phy does at each event. Whoever lists holds a
+// The listing of a trace, line by line: what a fresh bay does at each event. Whoever lists holds a
 // `Progress` and asks for one line after the other.
 mod lines;
 
@@ -8,10 +8,11 @@ ghost use Rattle.listing.specs.Listing.{lineOf, afterReading};
 ghost use Rattle.listing.specs.Contracts.{StartsListing, PutsLine, WritesLine};
 ghost use Rattle.listing.specs.declared.Progress.the-variants.{Done as Progress·Done};
 ghost use Rattle.trace.specs.Reading.{readEvent};
+use bay::Bay;
+use lines::columns;
 use lines::put_event;
 use lines::put_last;
 use lines::put_line;
-use phy::Phy;
 use trace::EventRead;
 
 // A longer trace is not listed.
@@ -21,7 +22,7 @@ pub const MOST_TRACE: usize = 65536;
 // or nothing more, the trace having been listed to its end or not.
 pub enum Progress {
     Header,
-    Events { place: usize, count: u64, phy: Phy },
+    Events { place: usize, count: u64, bay: Bay },
     TooLong,
     Done { whole: bool },
 }
@@ -31,6 +32,18 @@ pub enum LineWritten {
     Line { next: Progress, length: usize },
     Done { whole: bool },
     NoRoom,
+}
+
+// What the line of an event says behind its place: the event's code, what the step reported, of two
+// notices the last, and the phy after it.
+pub(crate) struct Columns {
+    pub(crate) event: u64,
+    pub(crate) refusal: u64,
+    pub(crate) answer: u64,
+    pub(crate) notice: u64,
+    pub(crate) sent: u64,
+    pub(crate) link: u64,
+    pub(crate) port: u64,
 }
 
 // The progress before the first line of a trace of a length.
@@ -56,22 +69,22 @@ fn next_event(
     trace: &[u8],
     place: usize,
     count: u64,
-    phy: Phy,
+    bay: Bay,
     out: &mut [u8],
     at: usize,
 ) -> LineWritten
-    ensures { λ r. ⌜ PutsLine (afterReading place count phy (readEvent (now (trace .entry)) place)) (now (out .entry)) at r (now (out .exit)) ⌝ }
+    ensures { λ r. ⌜ PutsLine (afterReading place count bay (readEvent (now (trace .entry)) place)) (now (out .entry)) at r (now (out .exit)) ⌝ }
 {
     match trace::event_at(trace, place) {
         EventRead::Event { event, next } => {
-            let stepped = phy::step(phy, event);
+            let stepped = bay::step(bay, event);
             let after = stepped.next;
             let progress = Progress::Events {
                 place: next,
                 count: std::num::wrapping_add_u64(count, 1),
-                phy: after,
+                bay: after,
             };
-            put_event(place, event, stepped, progress, out, at)
+            put_event(place, columns(event, stepped), progress, out, at)
         }
         EventRead::End => put_last(b"end", place, b" events", count, true, out, at),
         EventRead::BadEvent(first) => put_stop(first, table::BAD_EVENT, out, at),
@@ -89,12 +102,12 @@ pub fn next_line(trace: &[u8], progress: Progress, out: &mut [u8], at: usize) ->
             let first = Progress::Events {
                 place: 0,
                 count: 0,
-                phy: phy::fresh(),
+                bay: bay::fresh(),
             };
             let line = b"place event refusal answer notice sent link port\n";
             put_line(line, first, out, at)
         }
-        Progress::Events { place, count, phy } => next_event(trace, place, count, phy, out, at),
+        Progress::Events { place, count, bay } => next_event(trace, place, count, bay, out, at),
         Progress::TooLong => {
             let unlisted = Progress::Done { whole: false };
             put_line(b"too long\n", unlisted, out, at)

@@ -1,18 +1,21 @@
 // Each kind of line. It is made in an array of its own, so that its length is known before a byte of
 // the caller's buffer changes.
 ghost use Prim.Native.Nat.{_+_, _≤_};
+ghost use mathlib.Core.Path.{_≡_};
 ghost use lib.ListN.{length};
-ghost use Rattle.listing.specs.Lines.{mostLine, eventLine, lastLine};
+ghost use Rattle.listing.specs.Lines.{mostLine, columnsOf, eventLine, lastLine};
 ghost use Rattle.listing.specs.Listing.{lineOf};
 ghost use Rattle.listing.specs.Contracts.{PutsLine};
 ghost use Rattle.listing.specs.declared.Progress.the-variants.{Done as Progress·Done};
+use crate::Columns;
 use crate::LineWritten;
 use crate::Progress;
+use bay::Stepped;
+use bay::last_notice;
 use event::Event;
 use output::put_all;
 use output::put_more;
 use output::put_numbers;
-use phy::Stepped;
 
 // The longest line: eight numbers, each with the byte after it.
 const MOST_LINE: usize = 168;
@@ -33,26 +36,42 @@ pub(crate) fn put_line(line: &[u8], next: Progress, out: &mut [u8], at: usize) -
     LineWritten::Line { next, length }
 }
 
-// An event at a place: its code, what the step reported, and the phy after it.
+pub(crate) fn columns(event: Event, stepped: Stepped) -> Columns
+    ensures { λ r. ⌜ r ≡ columnsOf event stepped ⌝ }
+{
+    let answer = stepped.answer;
+    let sent = stepped.sent;
+    let bay = stepped.next;
+    let phy = bay.phy;
+    Columns {
+        event: event.code,
+        refusal: stepped.refusal,
+        answer: answer.code,
+        notice: last_notice(stepped),
+        sent: sent.code,
+        link: phy.link,
+        port: phy.port,
+    }
+}
+
+// An event at a place.
 pub(crate) fn put_event(
     place: usize,
-    event: Event,
-    stepped: Stepped,
+    columns: Columns,
     next: Progress,
     out: &mut [u8],
     at: usize,
 ) -> LineWritten
-    ensures { λ r. ⌜ PutsLine (lineOf (eventLine place event stepped) next) (now (out .entry)) at r (now (out .exit)) ⌝ }
+    ensures { λ r. ⌜ PutsLine (lineOf (eventLine place columns) next) (now (out .entry)) at r (now (out .exit)) ⌝ }
 {
-    let after = stepped.next;
     let others = [
-        event.code,
-        stepped.refusal,
-        stepped.answer,
-        stepped.notice,
-        stepped.sent,
-        after.link,
-        after.port,
+        columns.event,
+        columns.refusal,
+        columns.answer,
+        columns.notice,
+        columns.sent,
+        columns.link,
+        columns.port,
     ];
     let mut line = [0u8; MOST_LINE];
     let end = put_numbers(&mut line, 0, place as u64, &others);

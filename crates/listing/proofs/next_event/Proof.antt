@@ -12,8 +12,9 @@ read c e = sym (c .event-at .ensures) ∙ ap tells e
 
 returns : tie.Need-returns
 returns c =
-    rw (read (c .before .before .before .before .before .before .before .before .before .before) (c .before .before .before .before .before .before .before .before .event .given .1), ← c .before .before .before .before .before .before .step .ensures)
-    (rw (c .before .before .before .before .wrapping-add-u64 .ensures) at (c .before .before .put-event .ensures))
+    let asked = c .before .before .before .before in
+    rw (read (asked .before .before .before .before .before .before .before) (asked .before .before .before .before .before .event .given .1), ← asked .before .before .before .step .ensures)
+    (rw (asked .before .wrapping-add-u64 .ensures, asked .columns .ensures) at (c .before .before .put-event .ensures))
 
 returns-2 : tie.Need-returns-2
 returns-2 c = rw (read (c .before .before .before .before .before .before .before .before) (c .before .before .before .before .before .before .enum-told .given .1)) (c .before .before .put-last .ensures)
@@ -31,7 +32,7 @@ pub next-event-spec : {M : Type 1} → statement M
 next-event-spec =
     tie.close
     (tie.spec
-    (λ _ _. tt) (λ c. search needs) (λ _ _. tt) (λ _ _. tt) (λ _ _. tt) (λ c. search needs) (λ c. search needs)
+    (λ _ _. tt) (λ c. search needs) (λ _ _. tt) (λ _ _. tt) (λ _ _. tt) (λ _ _. tt) (λ c. search needs) (λ c. search needs)
     (λ c. search needs) (λ c κs. search needs) (λ c. search needs) (λ _ _. tt) (λ c. search needs) (λ _ _. tt)
     (λ c. search needs) (λ _ _. tt) (λ c. search needs) returns (λ c. search needs) returns-2 (λ c. search needs)
     returns-3 (λ c. search needs) returns-4 (λ c. search needs) returns-5)

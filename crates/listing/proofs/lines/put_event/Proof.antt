@@ -11,14 +11,14 @@ use Rattle.listing.specs.Lines.{mostLine, eventLine}
 use Rattle.listing.proofs.lines.put_event.Statement.{statement}
 use Rattle.listing.proofs.lines.put_event.Tie as tie
 
-short : (c : tie.Start) → length (eventLine (c .args .place) (c .args .event) (c .args .stepped)) ≤ mostLine
+short : (c : tie.Start) → length (eventLine (c .args .place) (c .args .columns)) ≤ mostLine
 short c = line-short _ _ (search needs)
 
 returns : tie.Need-returns
 returns c =
     let all = c .before .before .before .before .before .before in
     let numbers = all .before .before .before .before in
-    rw (puts-whole (puts-then (numbers .put-numbers .ensures) (all .put-all .ensures .puts)) (omega (arith, short (numbers .before .before .before .before .before)))) at
+    rw (puts-whole (puts-then (numbers .put-numbers .ensures) (all .put-all .ensures .puts)) (omega (arith, short (numbers .before .before .before .before)))) at
     (c .before .before .put-line .ensures)
 
 pub put-event-spec : {M : Type 1} → statement M
