@@ -1,29 +1,34 @@
 #include "listing.h"
 
-#include "phy.h"
+#include "bay.h"
 #include "trace.h"
 
 #include <inttypes.h>
 
-static void list_event(FILE *out, size_t place, uint64_t code, const struct phy_result *step)
+static uint64_t last_notice(const struct bay_result *step)
+{
+    return step->second_notice.code != NO_NOTICE ? step->second_notice.code : step->notice.code;
+}
+
+static void list_event(FILE *out, size_t place, uint64_t code, const struct bay_result *step)
 {
     fprintf(out, "%zu %" PRIu64 " %" PRIu64, place, code, step->refusal);
-    fprintf(out, " %" PRIu64 " %" PRIu64 " %" PRIu64, step->answer, step->notice, step->sent);
-    fprintf(out, " %" PRIu64 " %" PRIu64 "\n", step->phy.link, step->phy.port);
+    fprintf(out, " %" PRIu64 " %" PRIu64 " %" PRIu64, step->answer.code, last_notice(step), step->sent.code);
+    fprintf(out, " %" PRIu64 " %" PRIu64 "\n", step->bay.phy.link, step->bay.phy.port);
 }
 
 static void list_events(FILE *out, const uint8_t *trace, size_t length)
 {
-    struct phy phy = phy_fresh();
+    struct bay bay = bay_fresh();
     size_t count = 0;
     size_t place = 0;
     struct event_read got = event_read(trace, length, place);
 
     while (got.found == FOUND_EVENT) {
-        struct phy_result step = phy_step(phy, got.event);
+        struct bay_result step = bay_step(bay, got.event);
 
         list_event(out, place, got.event.code, &step);
-        phy = step.phy;
+        bay = step.bay;
         count++;
         place = got.next;
         got = event_read(trace, length, place);

@@ -1,7 +1,7 @@
 #ifndef RUN_H
 #define RUN_H
 
-#include "phy.h"
+#include "bay.h"
 
 enum run_stop {
     STOPPED_AT_END = 0,
@@ -9,14 +9,15 @@ enum run_stop {
     STOPPED_AT_FAULT = 2
 };
 
-/* Fault and place are 0 unless the run stopped at a fault; a refused run has zeros but for the phy. */
+/* Fault and place are 0 unless the run stopped at a fault; a refused run has zeros but for the phy. The base is that
+ * of the run's last stamp. */
 struct run_result {
     uint64_t refusal;
     size_t count;
     uint64_t stop;
     uint64_t fault;
     size_t place;
-    struct phy phy;
+    struct bay bay;
 };
 
 /* The bytes a run reads, and those it is lent to write to. */

@@ -1,5 +1,6 @@
 #include "trace.h"
 
+#include "bay.h"
 #include "number.h"
 #include "refusals.h"
 
@@ -17,7 +18,7 @@ static uint64_t read_code(struct event_read *got, const uint8_t *bytes, size_t l
     if (number.refusal != NOT_REFUSED) {
         return number.refusal;
     }
-    if (!phy_code_is_known(number.value)) {
+    if (!bay_code_is_known(number.value)) {
         return REFUSED_BAD_EVENT;
     }
     got->event.code = number.value;
@@ -32,7 +33,7 @@ static uint64_t read_argument(struct event_read *got, size_t which, const uint8_
     if (number.refusal != NOT_REFUSED) {
         return number.refusal;
     }
-    if (!phy_argument_fits(got->event.code, which, number.value)) {
+    if (!bay_argument_fits(got->event.code, which, number.value)) {
         return REFUSED_BAD_EVENT;
     }
     got->event.argument[which] = number.value;
@@ -54,7 +55,10 @@ struct event_read event_read(const uint8_t *bytes, size_t length, size_t place)
     if (refusal != NOT_REFUSED) {
         return event_fault(refusal, place);
     }
-    for (size_t i = 0; i < phy_argument_count(got.event.code); i++) {
+
+    size_t arguments = bay_argument_count(got.event.code);
+
+    for (size_t i = 0; i < arguments; i++) {
         refusal = read_argument(&got, i, bytes, length);
         if (refusal != NOT_REFUSED) {
             return event_fault(refusal, place);
@@ -69,7 +73,7 @@ static size_t event_length(const struct phy_event *event)
 {
     size_t length = number_length(event->code);
 
-    for (size_t i = 0; i < phy_argument_count(event->code); i++) {
+    for (size_t i = 0; i < bay_argument_count(event->code); i++) {
         length += number_length(event->argument[i]);
     }
     return length;
@@ -82,7 +86,7 @@ static struct event_written event_refused(uint64_t refusal)
 
 struct event_written event_write(const struct phy_event *event, uint8_t *buffer, size_t length, size_t place)
 {
-    if (!phy_event_is_valid(event)) {
+    if (!bay_event_is_valid(event)) {
         return event_refused(REFUSED_BAD_EVENT);
     }
 
@@ -93,7 +97,7 @@ struct event_written event_write(const struct phy_event *event, uint8_t *buffer,
         return event_refused(REFUSED_NO_ROOM);
     }
     place += number_write(event->code, buffer, length, place).length;
-    for (size_t i = 0; i < phy_argument_count(event->code); i++) {
+    for (size_t i = 0; i < bay_argument_count(event->code); i++) {
         place += number_write(event->argument[i], buffer, length, place).length;
     }
     return (struct event_written){.refusal = NOT_REFUSED, .length = needed};

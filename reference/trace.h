@@ -9,7 +9,8 @@ enum event_found {
     FOUND_FAULT = 2
 };
 
-/* At the end and on a fault the event is zero and next is the place given. */
+/* A trace has a bay's events, stamps among them. At the end and on a fault the event is zero and next is the place
+ * given. */
 struct event_read {
     uint64_t found;
     uint64_t refusal;

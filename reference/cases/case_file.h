@@ -16,7 +16,8 @@ enum case_kind {
     KIND_WRITE_EVENT = 7,
     KIND_TRACE = 8,
     KIND_RUNS = 9,
-    KIND_LISTING = 10
+    KIND_LISTING = 10,
+    KIND_BAY_WALK = 11
 };
 
 /* The two files stay in step: whoever writes a case also writes the lines expected of it. */

@@ -10,7 +10,8 @@ enum {
     ALL_BITS = 0xFF,
     TENTH_TOO_LARGE = 2,
     PADDED_GROUPS = 5,
-    /* No argument but an address takes it, and it is no code. */
+    PADDING = 2,
+    /* No argument but an address and a counter takes it, and it is no code. */
     OUT_OF_RANGE = 70000
 };
 
@@ -28,6 +29,13 @@ void add_fill(struct byte_string *string, uint8_t byte, size_t count)
     for (size_t i = 0; i < count; i++) {
         add_byte(string, byte);
     }
+}
+
+void add_string(struct byte_string *string, const struct byte_string *tail)
+{
+    assert(tail->length <= STRING_ROOM - string->length);
+    memcpy(string->bytes + string->length, tail->bytes, tail->length);
+    string->length += tail->length;
 }
 
 static void add_number(struct byte_string *string, uint64_t value)
@@ -60,14 +68,14 @@ void add_randomly_padded(struct case_file *file, struct byte_string *string, uin
     add_padded(string, value, groups);
 }
 
-void add_fault(struct byte_string *string, enum number_fault fault)
+static void add_fault_of(struct byte_string *string, enum number_fault fault, uint64_t out_of_range)
 {
     switch (fault) {
     case FAULT_OUT_OF_RANGE:
-        add_number(string, OUT_OF_RANGE);
+        add_number(string, out_of_range);
         return;
     case FAULT_OUT_OF_RANGE_PADDED:
-        add_padded(string, OUT_OF_RANGE, PADDED_GROUPS);
+        add_padded(string, out_of_range, number_length(out_of_range) + PADDING);
         return;
     case FAULT_TOO_LARGE:
         add_fill(string, ALL_BITS, NUMBER_MOST_BYTES - 1);
@@ -84,9 +92,14 @@ void add_fault(struct byte_string *string, enum number_fault fault)
     }
 }
 
+void add_fault(struct byte_string *string, enum number_fault fault)
+{
+    add_fault_of(string, fault, OUT_OF_RANGE);
+}
+
 size_t event_numbers(const struct phy_event *event)
 {
-    return 1 + phy_argument_count(event->code);
+    return 1 + bay_argument_count(event->code);
 }
 
 uint64_t event_number(const struct phy_event *event, size_t which)
@@ -99,6 +112,14 @@ void add_event_numbers(struct byte_string *string, const struct phy_event *event
     for (size_t i = from; i < to; i++) {
         add_number(string, event_number(event, i));
     }
+}
+
+void add_fault_in(
+    struct byte_string *string, const struct phy_event *event, size_t which, enum number_fault fault)
+{
+    bool is_counter = event->code == EVENT_TIME_STAMP && which == 1;
+
+    add_fault_of(string, fault, is_counter ? PAST_32_BITS : OUT_OF_RANGE);
 }
 
 void add_event(struct byte_string *string, const struct phy_event *event)
@@ -114,6 +135,14 @@ void add_padded_event(struct byte_string *string, const struct phy_event *event,
 
         add_padded(string, value, groups > needed ? groups : needed);
     }
+}
+
+struct byte_string event_string(const struct phy_event *event, size_t groups)
+{
+    struct byte_string string = {.length = 0};
+
+    add_padded_event(&string, event, groups);
+    return string;
 }
 
 void add_randomly_padded_event(

@@ -1,6 +1,7 @@
 #ifndef CASE_TRACE_H
 #define CASE_TRACE_H
 
+#include "bay.h"
 #include "case_file.h"
 #include "hex_file.h"
 #include "phy_samples.h"
@@ -34,6 +35,7 @@ struct byte_string {
 
 void add_byte(struct byte_string *string, uint8_t byte);
 void add_fill(struct byte_string *string, uint8_t byte, size_t count);
+void add_string(struct byte_string *string, const struct byte_string *tail);
 
 /* In so many groups, at most ten; those that the number does not need are zero. */
 void add_padded(struct byte_string *string, uint64_t value, size_t groups);
@@ -41,6 +43,7 @@ void add_padded(struct byte_string *string, uint64_t value, size_t groups);
 /* In at most so many groups; a number that needs more has more. */
 void add_randomly_padded(struct case_file *file, struct byte_string *string, uint64_t value, size_t most);
 
+/* In the place of a code. */
 void add_fault(struct byte_string *string, enum number_fault fault);
 
 /* The code and as many arguments as it has, whether in their ranges or not. */
@@ -56,6 +59,13 @@ void add_randomly_padded_event(
 size_t event_numbers(const struct phy_event *event);
 uint64_t event_number(const struct phy_event *event, size_t which);
 void add_event_numbers(struct byte_string *string, const struct phy_event *event, size_t from, size_t to);
+
+/* A fault in the place of one of them. */
+void add_fault_in(
+    struct byte_string *string, const struct phy_event *event, size_t which, enum number_fault fault);
+
+/* The event alone, padded like that. */
+struct byte_string event_string(const struct phy_event *event, size_t groups);
 
 /* The event with one of its numbers in so many groups. */
 void add_event_padded_at(

@@ -20,6 +20,16 @@ void make_whole_trace_cases(struct case_file *file);
 void make_run_cases(struct case_file *file);
 void make_listing_cases(struct case_file *file);
 
+/* More of them: stamps, alone and in traces. */
+void make_read_stamp_cases(struct case_file *file);
+void make_write_stamp_cases(struct case_file *file);
+void make_stamped_trace_cases(struct case_file *file);
+void make_stamped_run_cases(struct case_file *file);
+void make_stamped_listing_cases(struct case_file *file);
+
+void make_bay_cases(struct case_file *file);
+void make_refused_bay_cases(struct case_file *file);
+
 /* One trace, as it is; the program that takes it is the lister. */
 void make_lister_case(struct case_file *file);
 

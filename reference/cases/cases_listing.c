@@ -1,6 +1,6 @@
 #include "cases.h"
 
-#include "case_trace.h"
+#include "case_listing.h"
 #include "listing.h"
 #include "number.h"
 
@@ -8,37 +8,14 @@ enum {
     LONG_EVENTS = 5,
     MOST_SCRIPT_EVENTS = 100,
     RANDOM_WALKS = 25,
-    WALK_EVENTS = 50,
     DAMAGED_WALKS = 80,
     PADDED_WALKS = 5,
     DAMAGED_PADDED_WALKS = 15,
-    SHORT_EVENTS = 14,
     LISTER_WALKS = 150,
     LISTER_PADDED_WALKS = 4
 };
 
 static const struct phy_event widest_inbound = {EVENT_OPEN_RECEIVED, {UINT64_MAX, PROTOCOL_STP}};
-
-static void listing_case(struct case_file *file, const struct pieces *trace)
-{
-    case_number(file, KIND_LISTING);
-    case_pieces(file, trace);
-    list_trace(file->expected, trace->whole, trace->length);
-}
-
-static void list_bytes(struct case_file *file, const uint8_t *bytes, size_t length)
-{
-    struct pieces trace;
-
-    pieces_clear(&trace);
-    pieces_add(&trace, 1, bytes, length);
-    listing_case(file, &trace);
-}
-
-static void list_string(struct case_file *file, const struct byte_string *string)
-{
-    list_bytes(file, string->bytes, string->length);
-}
 
 static void list_nothing(struct case_file *file)
 {
@@ -58,32 +35,6 @@ static void list_paper_example(struct case_file *file)
 }
 
 /* ---- Every kind of event line ---- */
-
-/* To each pair of link and port that a fresh phy comes to, and to L3 with the far side closed. */
-static const struct phy_item ways[][SCRIPT_ITEMS] = {
-    {PLAIN(1, EVENT_TICK)},
-    {TX_OPEN(7, 1, 0)},
-    {OPEN_FROM(8, 2)},
-    {TX_OPEN(7, 1, 0), OPEN_FROM(8, 2)},
-    {TX_OPEN(8, 1, 0), OPEN_FROM(8, 2)},
-    {TX_OPEN(7, 0, 0), PLAIN(1, EVENT_OPEN_ACCEPT)},
-    {TX_OPEN(7, 2, 0), PLAIN(1, EVENT_OPEN_ACCEPT)},
-    {TX_OPEN(7, 0, 0), PLAIN(1, EVENT_OPEN_ACCEPT), PLAIN(1, EVENT_CLOSE)},
-    {TX_OPEN(7, 1, 0), PLAIN(1, EVENT_OPEN_ACCEPT), PLAIN(1, EVENT_CLOSE_CONNECTION)},
-    {TX_OPEN(7, 0, 0), PLAIN(1, EVENT_OPEN_ACCEPT), PLAIN(1, EVENT_SMP_TRANSMIT_BREAK)},
-    {TX_OPEN(7, 1, 0), PLAIN(1, EVENT_CANCEL_OPEN)},
-    {OPEN_FROM(8, 2), PLAIN(1, EVENT_BREAK)},
-    {OPEN_FROM(8, 2), PLAIN(1, EVENT_BREAK), TX_OPEN(7, 1, 0)},
-    {TX_OPEN(7, 1, 0), PLAIN(1, EVENT_OPEN_ACCEPT), PLAIN(1, EVENT_BREAK)},
-    {TX_OPEN(7, 1, 0), PLAIN(1, EVENT_BREAK)}
-};
-
-static void add_way(struct byte_string *string, const struct phy_item items[SCRIPT_ITEMS])
-{
-    for (size_t i = 0; i < SCRIPT_ITEMS && items[i].repeat != 0; i++) {
-        add_event(string, &items[i].event);
-    }
-}
 
 static void list_every_code(struct case_file *file, const struct phy_item way[SCRIPT_ITEMS], uint64_t flag)
 {
@@ -145,9 +96,9 @@ static void list_timeouts(struct case_file *file)
 
 static void list_all_events(struct case_file *file)
 {
-    for (size_t i = 0; i < sizeof ways / sizeof ways[0]; i++) {
-        list_every_code(file, ways[i], EVENT_ACCEPT_OPENS);
-        list_every_code(file, ways[i], EVENT_REJECT_OPENS);
+    for (size_t i = 0; i < listing_way_count; i++) {
+        list_every_code(file, listing_ways[i], EVENT_ACCEPT_OPENS);
+        list_every_code(file, listing_ways[i], EVENT_REJECT_OPENS);
     }
     list_rejects(file);
     list_scripts(file);
@@ -315,25 +266,6 @@ static struct byte_string random_walk(struct case_file *file, size_t events, siz
     return string;
 }
 
-static void list_random_walks(struct case_file *file, int count, size_t most_groups)
-{
-    for (int i = 0; i < count; i++) {
-        struct byte_string string = random_walk(file, WALK_EVENTS, most_groups);
-
-        list_string(file, &string);
-    }
-}
-
-static void list_damaged_walks(struct case_file *file, int count, size_t most_groups)
-{
-    for (int i = 0; i < count; i++) {
-        struct byte_string string = random_walk(file, SHORT_EVENTS, most_groups);
-
-        random_damage(file, &string);
-        list_string(file, &string);
-    }
-}
-
 void make_listing_cases(struct case_file *file)
 {
     list_nothing(file);
@@ -343,10 +275,10 @@ void make_listing_cases(struct case_file *file)
     list_faults(file);
     list_faults_behind_padding(file);
     list_long_traces(file);
-    list_random_walks(file, RANDOM_WALKS, SHORTEST);
-    list_damaged_walks(file, DAMAGED_WALKS, SHORTEST);
-    list_random_walks(file, PADDED_WALKS, NUMBER_MOST_BYTES);
-    list_damaged_walks(file, DAMAGED_PADDED_WALKS, NUMBER_MOST_BYTES);
+    list_random_walks(file, random_walk, RANDOM_WALKS, SHORTEST);
+    list_damaged_walks(file, random_walk, DAMAGED_WALKS, SHORTEST);
+    list_random_walks(file, random_walk, PADDED_WALKS, NUMBER_MOST_BYTES);
+    list_damaged_walks(file, random_walk, DAMAGED_PADDED_WALKS, NUMBER_MOST_BYTES);
 }
 
 /* ---- The lister's own trace ---- */

@@ -6,18 +6,19 @@
 enum {
     FULL = 65536,
     PAIRS = 8185,
-    UNTOUCHED = 1
+    UNTOUCHED = 2
 };
 
 bool make_full_output_case(struct case_file *file)
 {
     /* Nothing comes of the one and a refusal of the other, so no two bytes of the run are equal. */
     static const uint8_t pair[] = {EVENT_TICK, EVENT_CANCEL_OPEN};
-    const size_t events = PAIRS * sizeof pair;
+    /* The last refusal would be a few bytes too many. */
+    const size_t budget = PAIRS * sizeof pair - 1;
     struct pieces trace;
 
     pieces_clear(&trace);
     pieces_add(&trace, PAIRS, pair, sizeof pair);
-    single_run(file, phy_fresh(), events, events + UNTOUCHED, &trace);
+    single_run(file, phy_fresh(), budget, budget + UNTOUCHED, &trace);
     return ftell(file->expected) == FULL;
 }

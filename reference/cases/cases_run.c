@@ -426,30 +426,6 @@ static void add_random_run(struct case_file *file, struct chain *chain)
     chain_run(chain, budget, room, &walk.trace);
 }
 
-static void seeded_chain(struct case_file *file, struct phy start)
-{
-    uint64_t runs = 1 + case_random_below(file, MOST_CHAINED);
-    struct chain chain = start_chain(file, start, runs);
-
-    for (uint64_t i = 0; i < runs; i++) {
-        add_random_run(file, &chain);
-    }
-}
-
-/* Some of these states no fresh phy ever reaches. */
-static void chain_from_every_pair(struct case_file *file)
-{
-    for (uint64_t link = LINK_IDLE; link <= LINK_BREAK; link++) {
-        for (uint64_t port = PORT_IDLE; port <= PORT_WAIT_FOR_CLOSE; port++) {
-            struct phy phy = sample_record(link, port, (link + port) % variant_count(link, port));
-
-            if (phy_is_valid(&phy)) {
-                seeded_chain(file, phy);
-            }
-        }
-    }
-}
-
 void make_run_cases(struct case_file *file)
 {
     try_all_small_edges(file);
@@ -463,8 +439,5 @@ void make_run_cases(struct case_file *file)
     walk_long(file, 1, sample_event(EVENT_TX_OPEN));
     walk_long(file, CYCLES - 1, late_open);
     walk_long_padded(file);
-    chain_from_every_pair(file);
-    for (int i = 0; i < SEEDED_CHAINS; i++) {
-        seeded_chain(file, phy_fresh());
-    }
+    seeded_chains(file, add_random_run, MOST_CHAINED, SEEDED_CHAINS);
 }

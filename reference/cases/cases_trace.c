@@ -2,6 +2,7 @@
 
 #include "case_trace.h"
 #include "number.h"
+#include "stamp_samples.h"
 
 #include <string.h>
 
@@ -15,7 +16,10 @@ enum {
     RANDOM_DAMAGES = 250,
     PADDED_TRACES = 8,
     PADDED_EVENTS = 25,
-    PADDED_DAMAGES = 60
+    PADDED_DAMAGES = 60,
+    STAMPED_TRACES = 5,
+    STAMPED_EVENTS = 50,
+    STAMPED_DAMAGES = 50
 };
 
 struct event_list {
@@ -146,14 +150,13 @@ static void all_valid_events(struct case_file *file, size_t groups)
 }
 
 /* As long as a case allows, to the last byte; then with its last event cut. */
-static void longest_trace(struct case_file *file)
+static void longest_trace(struct case_file *file, const struct phy_event *repeated)
 {
-    struct byte_string event = {.length = 0};
+    struct byte_string event = event_string(repeated, SHORTEST);
     struct byte_string trace = {.length = 0};
 
-    add_event(&event, &widest_tx_open);
     while (trace.length + event.length <= STRING_ROOM) {
-        add_event(&trace, &widest_tx_open);
+        add_string(&trace, &event);
     }
     add_fill(&trace, EVENT_TICK, STRING_ROOM - trace.length);
     trace_case(file, &trace);
@@ -185,19 +188,21 @@ static struct phy_event random_wide_event(struct case_file *file)
     return event;
 }
 
-static struct event_list random_list(struct case_file *file, size_t count)
+typedef struct phy_event event_maker(struct case_file *file);
+
+static struct event_list random_list(struct case_file *file, event_maker *make, size_t count)
 {
     struct event_list list = {.count = 0};
 
     while (list.count < count) {
-        list.events[list.count++] = random_wide_event(file);
+        list.events[list.count++] = make(file);
     }
     return list;
 }
 
-static void random_damaged_trace(struct case_file *file, size_t most)
+static void random_damaged_trace(struct case_file *file, event_maker *make, size_t most)
 {
-    struct event_list list = random_list(file, 1 + (size_t)case_random_below(file, SHORT_EVENTS));
+    struct event_list list = random_list(file, make, 1 + (size_t)case_random_below(file, SHORT_EVENTS));
     struct byte_string trace = randomly_padded_trace_of(file, &list, most);
 
     random_damage(file, &trace);
@@ -207,32 +212,32 @@ static void random_damaged_trace(struct case_file *file, size_t most)
 static void random_traces(struct case_file *file)
 {
     for (int i = 0; i < DAMAGED_TRACES; i++) {
-        struct event_list list = random_list(file, SHORT_EVENTS);
+        struct event_list list = random_list(file, random_wide_event, SHORT_EVENTS);
 
         damage_everywhere(file, &list);
         pad_every_number(file, &list);
     }
     for (int i = 0; i < RANDOM_TRACES; i++) {
-        struct event_list list = random_list(file, MOST_EVENTS);
+        struct event_list list = random_list(file, random_wide_event, MOST_EVENTS);
         struct byte_string trace = trace_of(&list, SHORTEST);
 
         trace_case(file, &trace);
     }
     for (int i = 0; i < RANDOM_DAMAGES; i++) {
-        random_damaged_trace(file, SHORTEST);
+        random_damaged_trace(file, random_wide_event, SHORTEST);
     }
 }
 
 static void random_padded_traces(struct case_file *file)
 {
     for (int i = 0; i < PADDED_TRACES; i++) {
-        struct event_list list = random_list(file, PADDED_EVENTS);
+        struct event_list list = random_list(file, random_wide_event, PADDED_EVENTS);
         struct byte_string trace = randomly_padded_trace_of(file, &list, NUMBER_MOST_BYTES);
 
         trace_case(file, &trace);
     }
     for (int i = 0; i < PADDED_DAMAGES; i++) {
-        random_damaged_trace(file, NUMBER_MOST_BYTES);
+        random_damaged_trace(file, random_wide_event, NUMBER_MOST_BYTES);
     }
 }
 
@@ -247,7 +252,75 @@ void make_whole_trace_cases(struct case_file *file)
     cut_everywhere(file, trace_of(&codes, 2));
     all_valid_events(file, SHORTEST);
     all_valid_events(file, NUMBER_MOST_BYTES);
-    longest_trace(file);
+    longest_trace(file, &widest_tx_open);
     random_traces(file);
     random_padded_traces(file);
+}
+
+/* ---- Whole traces with stamps ---- */
+
+/* A tick behind each, and a stamp between any two of the other codes. */
+static struct event_list all_stamps(void)
+{
+    struct event_list list = {.count = 0};
+
+    for (size_t i = 0; i < counter_count; i++) {
+        list.events[list.count++] = stamp_at(counters[i]);
+        list.events[list.count++] = plain_event(EVENT_TICK);
+    }
+    for (uint64_t code = EVENT_TX_OPEN; code <= EVENT_PHY_DISABLED; code++) {
+        list.events[list.count++] = sample_event(code);
+        list.events[list.count++] = stamp_at(counters[code % counter_count]);
+    }
+    return list;
+}
+
+static struct event_list few_stamps(void)
+{
+    return (struct event_list){.count = SHORT_EVENTS, .events = {
+        stamp_at(BAY_MOST_COUNTER - 999), sample_event(EVENT_TX_OPEN), stamp_at(0), plain_event(EVENT_TICK),
+        stamp_at(16384), sample_event(EVENT_OPEN_REJECT), stamp_at(300), stamp_at(BAY_MOST_COUNTER)
+    }};
+}
+
+static struct phy_event random_stamped_event(struct case_file *file)
+{
+    if (case_random_one_in(file, 2)) {
+        return stamp_at(random_counter(file));
+    }
+    return case_random_one_in(file, 2) ? plain_event(EVENT_TICK) : random_wide_event(file);
+}
+
+static void random_stamped_traces(struct case_file *file)
+{
+    for (int i = 0; i < STAMPED_TRACES; i++) {
+        struct event_list list = random_list(file, random_stamped_event, STAMPED_EVENTS);
+        struct byte_string trace = trace_of(&list, SHORTEST);
+        struct byte_string padded = randomly_padded_trace_of(file, &list, NUMBER_MOST_BYTES);
+
+        trace_case(file, &trace);
+        trace_case(file, &padded);
+    }
+    for (int i = 0; i < STAMPED_DAMAGES; i++) {
+        random_damaged_trace(file, random_stamped_event, SHORTEST);
+        random_damaged_trace(file, random_stamped_event, NUMBER_MOST_BYTES);
+    }
+}
+
+void make_stamped_trace_cases(struct case_file *file)
+{
+    const struct event_list all = all_stamps();
+    const struct event_list few = few_stamps();
+    const struct phy_event widest = stamp_at(BAY_MOST_COUNTER);
+
+    for (size_t groups = SHORTEST; groups <= NUMBER_MOST_BYTES; groups++) {
+        struct byte_string trace = trace_of(&all, groups);
+
+        trace_case(file, &trace);
+    }
+    damage_everywhere(file, &few);
+    pad_every_number(file, &few);
+    cut_everywhere(file, trace_of(&few, 7));
+    longest_trace(file, &widest);
+    random_stamped_traces(file);
 }

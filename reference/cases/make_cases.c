@@ -15,7 +15,13 @@ enum case_seed {
     SEED_TRACE = 8008,
     SEED_RUN = 9009,
     SEED_LISTING = 10010,
-    SEED_LISTER = 11011
+    SEED_LISTER = 11011,
+    SEED_READ_STAMP = 12012,
+    SEED_WRITE_STAMP = 13013,
+    SEED_STAMPED_TRACE = 14014,
+    SEED_STAMPED_RUN = 15015,
+    SEED_STAMPED_LISTING = 16016,
+    SEED_BAY = 17017
 };
 
 static bool open_cases(struct case_file *file, const char *folder, const char *program)
@@ -55,6 +61,9 @@ static bool make_machine_cases(const char *folder)
     make_phy_cases(&file);
     file.random = SEED_WAIT;
     make_wait_cases(&file);
+    file.random = SEED_BAY;
+    make_bay_cases(&file);
+    make_refused_bay_cases(&file);
     return close_cases(&file);
 }
 
@@ -73,17 +82,27 @@ static bool make_trace_cases(const char *folder, const char *traces)
     }
     file.random = SEED_READ_EVENT;
     make_read_event_cases(&file);
+    file.random = SEED_READ_STAMP;
+    make_read_stamp_cases(&file);
     file.random = SEED_WRITE_EVENT;
     make_write_event_cases(&file);
+    file.random = SEED_WRITE_STAMP;
+    make_write_stamp_cases(&file);
     file.random = SEED_TRACE;
     make_whole_trace_cases(&file);
+    file.random = SEED_STAMPED_TRACE;
+    make_stamped_trace_cases(&file);
     file.random = SEED_RUN;
     make_run_cases(&file);
+    file.random = SEED_STAMPED_RUN;
+    make_stamped_run_cases(&file);
     file.random = SEED_LISTING;
     make_listing_cases(&file);
 
     bool named = make_named_listing_cases(&file, traces);
 
+    file.random = SEED_STAMPED_LISTING;
+    make_stamped_listing_cases(&file);
     return close_cases(&file) && full && named;
 }
 

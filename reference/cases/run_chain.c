@@ -1,6 +1,6 @@
 #include "run_chain.h"
 
-#include "phy_fields.h"
+#include "bay_fields.h"
 #include "run.h"
 
 #include <string.h>
@@ -21,11 +21,11 @@ struct chain start_chain(struct case_file *file, struct phy start, uint64_t runs
 
 static void expect_result(struct case_file *file, const struct run_result *result)
 {
-    uint64_t line[5 + PHY_FIELDS] = {
+    uint64_t line[5 + BAY_FIELDS] = {
         result->refusal, result->count, result->stop, result->fault, result->place
     };
 
-    phy_to_fields(&result->phy, line + 5);
+    bay_to_fields(&result->bay, line + 5);
     expect_line(file, KIND_RUNS, line, sizeof line / sizeof line[0]);
 }
 
@@ -45,7 +45,33 @@ void chain_run(struct chain *chain, uint64_t budget, size_t room, const struct p
 
     expect_result(chain->file, &result);
     expect_repeats(chain->file, KIND_RUNS, bytes, room);
-    chain->now = result.phy;
+    chain->now = result.bay.phy;
+}
+
+static void seeded_chain(struct case_file *file, run_maker *make, uint64_t most_runs, struct phy start)
+{
+    uint64_t runs = 1 + case_random_below(file, most_runs);
+    struct chain chain = start_chain(file, start, runs);
+
+    for (uint64_t i = 0; i < runs; i++) {
+        make(file, &chain);
+    }
+}
+
+void seeded_chains(struct case_file *file, run_maker *make, uint64_t most_runs, int from_fresh)
+{
+    for (uint64_t link = LINK_IDLE; link <= LINK_BREAK; link++) {
+        for (uint64_t port = PORT_IDLE; port <= PORT_WAIT_FOR_CLOSE; port++) {
+            struct phy phy = sample_record(link, port, (link + port) % variant_count(link, port));
+
+            if (phy_is_valid(&phy)) {
+                seeded_chain(file, make, most_runs, phy);
+            }
+        }
+    }
+    for (int i = 0; i < from_fresh; i++) {
+        seeded_chain(file, make, most_runs, phy_fresh());
+    }
 }
 
 void single_run(

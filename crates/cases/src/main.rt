@@ -3,6 +3,7 @@
 // output is made by the reference alone.
 ghost use Rattle.casefile.specs.Contracts.{EndsWithin};
 
+mod bays;
 mod idents;
 mod numbers;
 mod phys;
@@ -25,6 +26,8 @@ const IDENTIFY_WALK: u64 = 4;
 
 const PHY_WALK: u64 = 5;
 
+const BAY_WALK: u64 = 11;
+
 // The case at a place. An unknown kind ends the run: nothing after it could be told apart.
 fn one_case(s: &[u8], place: usize, out: &mut [u8], n: usize) -> Place
     ensures { λ r. ⌜ EndsWithin (now (s .entry)) r ⌝ }
@@ -38,6 +41,7 @@ fn one_case(s: &[u8], place: usize, out: &mut [u8], n: usize) -> Place
         DWS_WALK => walks::walk_case(s, code, next, out, n),
         IDENTIFY_WALK => walks::walk_case(s, code, next, out, n),
         PHY_WALK => walks::walk_case(s, code, next, out, n),
+        BAY_WALK => walks::walk_case(s, code, next, out, n),
         _ => Place { next: s.len(), n },
     }
 }

@@ -1,5 +1,7 @@
 // Items of the crate `phy`: each an event and how many times it comes.
 ghost use Prim.Native.Nat.{_≤_};
+ghost use mathlib.Core.List.{[], _∷_};
+ghost use mathlib.Core.Path.{_≡_};
 ghost use lib.ListN.{length};
 use crate::walks::Walk;
 use casefile::EVENT_NUMBERS;
@@ -8,30 +10,35 @@ use casefile::phy_numbers;
 use casefile::take;
 use casefile::take_many;
 use event::Event;
+use event::Open;
 use output::end_line;
 use output::put_more;
 use output::put_numbers;
 use phy::Phy;
 use phy::Stepped;
 
-// refusal, answer, notice, sent, the answer's Open, phy
-fn put_stepped(out: &mut [u8], n: usize, kind: u64, r: Stepped) -> usize {
-    let o = r.answered;
-    let head = [
-        r.refusal,
-        r.answer,
-        r.notice,
-        r.sent,
+// The numbers of an Open.
+pub(crate) fn open_numbers(o: Open) -> [u64; 6]
+    ensures { λ r. ⌜ r ≡ (o .destination ∷ o .protocol ∷ o .rate ∷ o .tag ∷ o .blockedCount ∷ o .wait ∷ []) ⌝ }
+{
+    [
         o.destination,
         o.protocol,
         o.rate,
         o.tag,
         o.blockedCount,
         o.wait,
-    ];
+    ]
+}
+
+// refusal, answer, notice, sent, the answer's Open, phy
+fn put_stepped(out: &mut [u8], n: usize, kind: u64, r: Stepped) -> usize {
+    let head = [r.refusal, r.answer, r.notice, r.sent];
+    let open = open_numbers(r.answered);
     let fields = phy_numbers(r.next);
     let first = put_numbers(out, n, kind, &head);
-    let end = put_more(out, first, &fields);
+    let second = put_more(out, first, &open);
+    let end = put_more(out, second, &fields);
     end_line(out, end)
 }
 
@@ -73,10 +80,12 @@ pub(crate) fn one_item(s: &[u8], kind: u64, walk: Walk, out: &mut [u8]) -> Walk
     let times = take(s, walk.next);
     let mut item = [0u64; EVENT_NUMBERS];
     let next = take_many(s, times.next, &mut item);
-    let done = repeat(out, walk.n, kind, walk.phy, event_of(item), times.value);
+    let mut bay = walk.bay;
+    let done = repeat(out, walk.n, kind, bay.phy, event_of(item), times.value);
     let phy = done.next;
+    bay.phy = phy;
     let mut after = walk;
-    after.phy = phy;
+    after.bay = bay;
     after.next = next;
     after.n = done.n;
     after

@@ -3,25 +3,27 @@
 ghost use Prim.Native.Nat.{_≤_, max};
 ghost use lib.ListN.{length};
 ghost use Rattle.casefile.specs.Contracts.{EndsWithin};
+use crate::BAY_WALK;
 use crate::DWS_WALK;
 use crate::IDENTIFY_WALK;
+use crate::bays;
 use crate::idents;
 use crate::phys;
 use crate::syncs;
+use bay::Bay;
 use casefile::PHY_NUMBERS;
 use casefile::Place;
 use casefile::phy_of;
 use casefile::take;
 use casefile::take_many;
 use identify::Identification;
-use phy::Phy;
 
-// How far a walk has come: a state of each machine, of which only the one that the kind names counts,
-// where the case file is read next, and how much output is gathered.
+// How far a walk has come: a state of each machine, of which only the one that the kind names counts, a
+// phy's in a bay, where the case file is read next, and how much output is gathered.
 pub(crate) struct Walk {
     pub(crate) sync: u64,
     pub(crate) identification: Identification,
-    pub(crate) phy: Phy,
+    pub(crate) bay: Bay,
     pub(crate) next: usize,
     pub(crate) n: usize,
 }
@@ -37,12 +39,23 @@ fn numbers_of(kind: u64) -> usize
     }
 }
 
+// A bay's own numbers, behind those of its phy.
+fn clock_numbers(kind: u64) -> usize
+    ensures { λ r. ⌜ r ≤ 2 ⌝ }
+{
+    if kind == BAY_WALK {
+        return bays::CLOCK;
+    }
+    0
+}
+
 fn one_item(s: &[u8], kind: u64, walk: Walk, out: &mut [u8]) -> Walk
-    ensures { λ r. ⌜ r .next ≤ length (now (s .entry)) ⌝ }
+    ensures { λ r. ⌜ r .next ≤ max (walk .next) (length (now (s .entry))) ⌝ }
 {
     match kind {
         DWS_WALK => syncs::one_step(s, kind, walk, out),
         IDENTIFY_WALK => idents::one_step(s, kind, walk, out),
+        BAY_WALK => bays::one_step(s, kind, walk, out),
         _ => phys::one_item(s, kind, walk, out),
     }
 }
@@ -66,11 +79,19 @@ pub(crate) fn walk_case(s: &[u8], kind: u64, place: usize, out: &mut [u8], n: us
     let mut fields = [0u64; PHY_NUMBERS];
     let numbers = numbers_of(kind);
     let first = take_many(s, place, &mut fields[0..numbers]);
-    let count = take(s, first);
+    let mut clock = [0u64; bays::CLOCK];
+    let own = clock_numbers(kind);
+    let second = take_many(s, first, &mut clock[0..own]);
+    let count = take(s, second);
+    let bay = Bay {
+        phy: phy_of(fields),
+        base: clock[0],
+        baseSet: clock[1],
+    };
     let start = Walk {
         sync: fields[0],
         identification: idents::identification(fields),
-        phy: phy_of(fields),
+        bay,
         next: count.next,
         n,
     };

@@ -1,4 +1,4 @@
-// Cases of runs, each from the state that the one before gave back.
+// Cases of runs, each from the phy that the one before gave back.
 ghost use Prim.Native.Nat.{_≤_, max};
 ghost use lib.ListN.{length};
 ghost use Rattle.casefile.specs.Contracts.{EndsWithin};
@@ -17,7 +17,7 @@ use output::put_numbers;
 use phy::Phy;
 use replies::RunReply;
 
-// refusal, count, how, fault, its place, phy
+// refusal, count, how, fault, its place, bay
 fn put_ran(out: &mut [u8], n: usize, kind: u64, r: RunReply) -> usize {
     let stop = r.stop;
     let head = [
@@ -27,13 +27,16 @@ fn put_ran(out: &mut [u8], n: usize, kind: u64, r: RunReply) -> usize {
         stop.fault,
         stop.place as u64,
     ];
-    let numbers = phy_numbers(r.next);
+    let bay = r.next;
+    let numbers = phy_numbers(bay.phy);
+    let clock = [bay.base, bay.baseSet];
     let first = put_numbers(out, n, kind, &head);
-    let end = put_more(out, first, &numbers);
+    let middle = put_more(out, first, &numbers);
+    let end = put_more(out, middle, &clock);
     end_line(out, end)
 }
 
-// The state after a run, and how much output is gathered.
+// The phy after a run, and how much output is gathered.
 struct After {
     state: Phy,
     n: usize,
@@ -50,10 +53,11 @@ fn put_run(
     n: usize,
 ) -> After {
     let r = replies::run(state, trace, budget, lent);
-    let next = r.next;
+    let bay = r.next;
+    let state = bay.phy;
     let line = put_ran(out, n, kind, r);
     After {
-        state: next,
+        state,
         n: put_repeats(out, line, kind, lent),
     }
 }
