@@ -1,5 +1,5 @@
 /*
- * The archives against the reference, on seeded random walks: phys, traces, numbers and the two other
+ * The archives against the reference, on seeded random walks: phys, bays, traces, numbers and the two other
  * machines, valid, damaged and invalid.
  *
  *   differ ROUNDS [FIRST]   rounds with the seeds FIRST, FIRST + 1, ..; a difference is printed with its seed,
@@ -127,6 +127,13 @@ void same_phy(const struct louravela_phy *ours, const struct phy *theirs)
     same("the accept flag", ours->accept, theirs->accept);
 }
 
+void same_bay(const struct louravela_bay *ours, const struct bay *theirs)
+{
+    same_phy(&ours->phy, &theirs->phy);
+    same("the base", ours->base, theirs->base);
+    same("whether the base is set", ours->base_set, theirs->base_set);
+}
+
 /* Where the wait's slope changes, near its most, or anywhere. */
 static uint64_t random_wait(void)
 {
@@ -140,7 +147,7 @@ struct louravela_event known_event(void)
 {
     struct louravela_event event = {0};
 
-    event.code = 1 + random_below(15);
+    event.code = 1 + random_below(16);
     if (event.code == LOURAVELA_TX_OPEN || event.code == LOURAVELA_OPEN_RECEIVED) {
         event.first = one_in(2) ? random_below(3) : random_any();
         event.second = random_below(3);
@@ -153,6 +160,9 @@ struct louravela_event known_event(void)
     }
     if (event.code == LOURAVELA_OPEN_REJECT_RECEIVED) {
         event.first = random_below(8);
+    }
+    if (event.code == LOURAVELA_TIME_STAMP) {
+        event.first = random_any() % (UINT64_C(1) << 32);
     }
     return event;
 }
@@ -202,6 +212,7 @@ int main(int argc, char **argv)
         walk_numbers();
         walk_dws();
         walk_identify();
+        walk_bay();
     }
     printf("differ: seeds %" PRIu64 " to %" PRIu64 ": %llu steps, %llu of them beside the walks from damaged records, "
            "%llu runs, %llu events and %llu numbers read or written, compared with every byte of their buffers; "

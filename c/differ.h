@@ -5,6 +5,7 @@
 #include <stddef.h>
 #include <stdint.h>
 
+#include "bay.h"
 #include "louravela.h"
 #include "phy.h"
 
@@ -30,8 +31,9 @@ void same_bytes(const char *what, const uint8_t *ours, const uint8_t *theirs, si
 struct phy their_phy(const struct louravela_phy *phy);
 void same_open(const struct louravela_open *ours, const struct phy_request *theirs);
 void same_phy(const struct louravela_phy *ours, const struct phy *theirs);
+void same_bay(const struct louravela_bay *ours, const struct bay *theirs);
 
-/* A known event is valid; of the random ones some have any number in one of their fields. */
+/* A known event is valid in a trace; of the random ones some have any number in one of their fields. */
 struct louravela_event known_event(void);
 struct louravela_event random_event(void);
 
@@ -42,6 +44,7 @@ struct louravela_phy damaged_phy(struct louravela_phy phy);
 struct louravela_phy walk_phy(void);
 void walk_dws(void);
 void walk_identify(void);
+void walk_bay(void);
 
 /* Traces, their runs and their numbers. */
 void walk_trace(struct louravela_phy phy);

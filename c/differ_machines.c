@@ -1,5 +1,5 @@
 /*
- * Walks of the phy and of the two machines beside it, step by step.
+ * Walks of the phy, of a bay and of the two machines beside them, step by step.
  */
 #include <string.h>
 
@@ -52,6 +52,70 @@ struct louravela_phy walk_phy(void)
         }
     }
     return phy;
+}
+
+/* ---- A bay ---- */
+
+static void same_report(const char *what, struct louravela_report ours, struct bay_report theirs)
+{
+    same(what, ours.code, theirs.code);
+    same("the tick of a report", ours.tick, theirs.tick);
+}
+
+static struct louravela_bay bay_both(struct louravela_bay bay, struct louravela_event event)
+{
+    struct louravela_bay_stepped ours = louravela_bay_step(bay, event);
+    struct bay before = {their_phy(&bay.phy), bay.base, bay.base_set};
+    struct bay_result theirs = bay_step(before, their_event(&event));
+
+    compared_steps++;
+    same("a bay's refusal", ours.refusal, theirs.refusal);
+    same_report("a bay's answer", ours.answer, theirs.answer);
+    same_report("a bay's notice", ours.notice, theirs.notice);
+    same_report("a bay's second notice", ours.second_notice, theirs.second_notice);
+    same_report("what a bay sends", ours.sent, theirs.sent);
+    same_open(&ours.answered, &theirs.answered);
+    same_bay(&ours.next, &theirs.bay);
+    return ours.next;
+}
+
+/* A counter behind the bay's base by a gap after which something may just have happened, or by any number of ticks. */
+static struct louravela_event next_stamp(const struct louravela_bay *bay)
+{
+    static const uint64_t gaps[] = {0, 1, 2, 998, 999, 1000, 1001, 1998, 1999, 2000, 2001, UINT32_MAX};
+    struct louravela_event event = {LOURAVELA_TIME_STAMP, 0, 0, 0, 0, 0, 0};
+    uint64_t gap = one_in(4) ? random_any() : gaps[random_below(sizeof gaps / sizeof gaps[0])];
+
+    event.first = (uint32_t)(bay->base + gap);
+    return event;
+}
+
+static struct louravela_bay damaged_bay(struct louravela_bay bay)
+{
+    if (one_in(2)) {
+        bay.phy = damaged_phy(bay.phy);
+        return bay;
+    }
+    *(one_in(2) ? &bay.base : &bay.base_set) = random_any();
+    return bay;
+}
+
+/* Stamps between events as they come, and damaged records beside the walk. */
+void walk_bay(void)
+{
+    struct louravela_bay bay = louravela_bay_fresh();
+    struct bay fresh = bay_fresh();
+
+    same_bay(&bay, &fresh);
+    for (int i = 0; i < WALK_STEPS; i++) {
+        struct louravela_event event = one_in(3) ? next_stamp(&bay) : random_event();
+
+        bay = bay_both(bay, event);
+        if (one_in(4)) {
+            compared_records++;
+            bay_both(damaged_bay(bay), one_in(2) ? next_stamp(&bay) : event);
+        }
+    }
 }
 
 /* ---- The two machines beside the phy ---- */

@@ -90,7 +90,7 @@ static size_t damaged_trace(size_t length)
 {
     if (length > 0 && one_in(2)) {
         for (uint64_t times = 1 + random_below(3); times > 0; times--) {
-            trace[random_below(length)] = (uint8_t)(one_in(2) ? 0x80u | random_below(128) : random_below(18));
+            trace[random_below(length)] = (uint8_t)(one_in(2) ? 0x80u | random_below(128) : random_below(19));
         }
     }
     return one_in(3) ? (size_t)random_below(length + 1) : length;
@@ -119,7 +119,7 @@ static void same_ran(const struct louravela_run_reply *ours, const struct run_re
     same("how a run stopped", ours->how, theirs->stop);
     same("a run's fault", ours->fault, theirs->fault);
     same("a run's place", ours->place, theirs->place);
-    same_phy(&ours->next, &theirs->phy);
+    same_bay(&ours->next, &theirs->bay);
 }
 
 static void run_both(struct louravela_phy phy, size_t length, size_t budget, size_t room)

@@ -3,6 +3,7 @@
  *
  *   speed                     nanoseconds for each event, medians, and their ratio
  *   speed list                the workloads, one to a line
+ *   speed gaps                the gaps of time stamps, and how often the link moves in each
  *   speed WORKLOAD WHO COUNT  one run for whoever counts instructions: WHO is ours, reference, or none, which
  *                             only prepares, so that the preparation can be subtracted
  */
@@ -15,10 +16,12 @@
 #include <string.h>
 #include <time.h>
 
+#include "gaps.h"
 #include "inputs.h"
 #include "workloads.h"
 
-enum { TIMED_EVENTS = 100000, TIMED_RUNS = 21 };
+/* The reference takes the ticks of a gap one by one, so fewer of them are timed. */
+enum { TIMED_EVENTS = 100000, TIMED_GAPS = 100, TIMED_RUNS = 21 };
 
 static double nanoseconds(worker *work, size_t count, uint64_t *sum)
 {
@@ -45,24 +48,30 @@ static double median(double *times)
     return times[TIMED_RUNS / 2];
 }
 
-static bool time_workload(const struct workload *workload, size_t count)
+/* What is prepared, by both. */
+static bool time_both(const char *name, worker *our_work, worker *their_work, size_t count)
 {
     double ours[TIMED_RUNS];
     double reference[TIMED_RUNS];
     uint64_t our_sum = 0;
     uint64_t their_sum = 0;
 
-    prepare(workload, count);
     for (size_t i = 0; i < TIMED_RUNS; i++) {
-        ours[i] = nanoseconds(workload->ours, count, &our_sum);
-        reference[i] = nanoseconds(workload->reference, count, &their_sum);
+        ours[i] = nanoseconds(our_work, count, &our_sum);
+        reference[i] = nanoseconds(their_work, count, &their_sum);
     }
-    printf("%-20s %9zu %9.2f %9.2f %7.2f\n", workload->name, count, median(ours), median(reference),
+    printf("%-20s %9zu %9.2f %9.2f %7.2f\n", name, count, median(ours), median(reference),
            median(ours) / median(reference));
     if (our_sum != their_sum) {
-        printf("%s: the results differ\n", workload->name);
+        printf("%s: the results differ\n", name);
     }
     return our_sum == their_sum;
+}
+
+static bool time_workload(const struct workload *workload, size_t count)
+{
+    prepare(workload, count);
+    return time_both(workload->name, workload->ours, workload->reference, count);
 }
 
 static int time_all(void)
@@ -76,6 +85,10 @@ static int time_all(void)
     for (size_t count = 1000; count <= MOST_EVENTS; count *= 10) {
         same = time_workload(&workloads[0], count) && same;
     }
+    for (size_t i = 0; i < gap_count; i++) {
+        prepare_gap(i);
+        same = time_both(gap_name(i), our_gaps, their_gaps, TIMED_GAPS) && same;
+    }
     return same ? 0 : 1;
 }
 
@@ -87,19 +100,36 @@ static int list_all(void)
     return 0;
 }
 
+static int list_gaps(void)
+{
+    for (size_t i = 0; i < gap_count; i++) {
+        printf("%s %u\n", gap_name(i), gap_moves(i));
+    }
+    return 0;
+}
+
+/* What is prepared, by one of them or by none. */
+static int work_as(const char *who, worker *ours, worker *reference, size_t count)
+{
+    if (strcmp(who, "none") != 0) {
+        random_state = (strcmp(who, "ours") == 0 ? ours : reference)(count);
+    }
+    return 0;
+}
+
 static int work_once(const char *name, const char *who, size_t count)
 {
-    for (size_t i = 0; i < workload_count; i++) {
-        if (strcmp(workloads[i].name, name) != 0 || count == 0 || count > MOST_EVENTS) {
-            continue;
+    for (size_t i = 0; i < workload_count && count > 0 && count <= MOST_EVENTS; i++) {
+        if (strcmp(workloads[i].name, name) == 0) {
+            prepare(&workloads[i], count);
+            return work_as(who, workloads[i].ours, workloads[i].reference, count);
         }
-        prepare(&workloads[i], count);
-        if (strcmp(who, "none") != 0) {
-            worker *work = strcmp(who, "ours") == 0 ? workloads[i].ours : workloads[i].reference;
-
-            random_state = work(count);
+    }
+    for (size_t i = 0; i < gap_count && count > 0; i++) {
+        if (strcmp(gap_name(i), name) == 0) {
+            prepare_gap(i);
+            return work_as(who, our_gaps, their_gaps, count);
         }
-        return 0;
     }
     fprintf(stderr, "speed: no such workload or count\n");
     return 2;
@@ -112,6 +142,9 @@ int main(int argc, char **argv)
     }
     if (argc == 2 && strcmp(argv[1], "list") == 0) {
         return list_all();
+    }
+    if (argc == 2 && strcmp(argv[1], "gaps") == 0) {
+        return list_gaps();
     }
     return time_all();
 }

@@ -24,6 +24,20 @@ void expect(int line, const char *what, uint64_t got, uint64_t wanted)
     }
 }
 
+struct louravela_event tx_open(uint64_t destination)
+{
+    struct louravela_event event = {LOURAVELA_TX_OPEN, destination, LOURAVELA_SSP, 9, 300, 2, 0};
+
+    return event;
+}
+
+struct louravela_event open_received(uint64_t source, uint64_t protocol)
+{
+    struct louravela_event event = {LOURAVELA_OPEN_RECEIVED, source, protocol, 0, 0, 0, 0};
+
+    return event;
+}
+
 uint8_t *lend(void)
 {
     memset(room, UNTOUCHED, sizeof room);
@@ -44,6 +58,7 @@ void expect_room(int line, size_t place, const uint8_t *bytes, size_t count)
 int main(void)
 {
     test_machines();
+    test_bays();
     test_traces();
     printf("test: %lu expectations, %lu failed\n", made, failed);
     return failed == 0 ? 0 : 1;

@@ -5,6 +5,8 @@
 #include <stdint.h>
 #include <string.h>
 
+#include "louravela.h"
+
 /* The file whose expectations are made: a failed one is printed with it and its line. */
 extern const char *tested;
 
@@ -14,6 +16,10 @@ void expect(int line, const char *what, uint64_t got, uint64_t wanted);
 
 /* Records have no padding, so equal bytes are equal records. */
 #define EXPECT_SAME(got, wanted) expect(__LINE__, #got " as given", memcmp(&(got), &(wanted), sizeof(got)) == 0, 1)
+
+/* Events with arguments. */
+struct louravela_event tx_open(uint64_t destination);
+struct louravela_event open_received(uint64_t source, uint64_t protocol);
 
 /* A room of bytes, of which a part is lent. */
 enum { BEFORE = 16, ROOM = 64 };
@@ -28,6 +34,7 @@ void expect_room(int line, size_t place, const uint8_t *bytes, size_t count);
 #define EXPECT_ROOM(place, bytes, count) expect_room(__LINE__, place, bytes, count)
 
 void test_machines(void);
+void test_bays(void);
 void test_traces(void);
 
 #endif

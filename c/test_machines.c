@@ -7,20 +7,6 @@
 
 /* ---- The phy ---- */
 
-static struct louravela_event tx_open(uint64_t destination)
-{
-    struct louravela_event event = {LOURAVELA_TX_OPEN, destination, LOURAVELA_SSP, 9, 300, 2, 0};
-
-    return event;
-}
-
-static struct louravela_event open_received(uint64_t source, uint64_t protocol)
-{
-    struct louravela_event event = {LOURAVELA_OPEN_RECEIVED, source, protocol, 0, 0, 0, 0};
-
-    return event;
-}
-
 static struct louravela_phy after(struct louravela_phy phy, struct louravela_event event)
 {
     return louravela_phy_step(phy, event).next;

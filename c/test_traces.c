@@ -32,7 +32,7 @@ static void expect_run_refused(int line, struct louravela_phy phy, size_t budget
     struct louravela_run_reply ran = louravela_phy_run(phy, sample, sizeof sample, budget, lend(), length);
     struct louravela_run_reply wanted = {0};
 
-    wanted.next = phy;
+    wanted.next.phy = phy;
     wanted.refusal = refusal;
     expect(line, "the run's refusal", ran.refusal, refusal);
     expect(line, "the refused run", memcmp(&ran, &wanted, sizeof ran) == 0, 1);
@@ -43,11 +43,11 @@ static void expect_run_refused(int line, struct louravela_phy phy, size_t budget
 
 static void expect_whole_run(int line, const uint8_t *trace, size_t length)
 {
-    struct louravela_phy fresh = louravela_phy_fresh();
-    struct louravela_run_reply ran = louravela_phy_run(fresh, trace, length, ROOM, lend(), ROOM);
+    struct louravela_bay fresh = louravela_bay_fresh();
+    struct louravela_run_reply ran = louravela_phy_run(fresh.phy, trace, length, ROOM, lend(), ROOM);
 
     expect_ran(line, ran, 3, LOURAVELA_STOPPED_AT_END, 0, 0);
-    expect(line, "the phy after the run", memcmp(&ran.next, &fresh, sizeof fresh) == 0, 1);
+    expect(line, "the bay after the run", memcmp(&ran.next, &fresh, sizeof fresh) == 0, 1);
     expect_room(line, 0, sample_bytes, 3);
 }
 
@@ -63,7 +63,7 @@ static void test_runs(void)
     /* the budget, and a buffer that is just as long */
     ran = louravela_phy_run(fresh, sample, sizeof sample, 2, lend(), 2);
     EXPECT_RAN(ran, 2, LOURAVELA_STOPPED_AT_BUDGET, 0, 0);
-    EXPECT(ran.next.link, LOURAVELA_L6_BREAK);
+    EXPECT(ran.next.phy.link, LOURAVELA_L6_BREAK);
     EXPECT_ROOM(0, sample_bytes, 2);
     /* both at once: the end is looked for first */
     ran = louravela_phy_run(fresh, sample, sizeof sample, 3, lend(), 3);
@@ -76,12 +76,42 @@ static void test_runs(void)
     EXPECT_ROOM(0, room, 0);
 }
 
+/* A stamp is one event with one byte, its base begins unset in each run, and one above 32 bits is a fault. */
+static void test_stamped_runs(void)
+{
+    /* the counter at 4,294,967,290, a Tx Open, and 2,000 ticks later, past the counter's end; the stamp is padded */
+    static const uint8_t stamped[] = {
+        0x10, 0xFA, 0xFF, 0xFF, 0xFF, 0x0F, 0x01, 0x05, 0x01, 0x09, 0xAC, 0x02, 0x00, 0x00,
+        0x90, 0x00, 0xCA, 0x8F, 0x80, 0x00
+    };
+    static const uint8_t above[] = {0x10, 0x80, 0x80, 0x80, 0x80, 0x10};
+    static const uint8_t bytes[] = {0, 0, LOURAVELA_ANSWER_OPEN_TIMEOUT};
+    struct louravela_phy fresh = louravela_phy_fresh();
+    struct louravela_run_reply ran = louravela_phy_run(fresh, stamped, sizeof stamped, ROOM, lend(), ROOM);
+
+    EXPECT_RAN(ran, 3, LOURAVELA_STOPPED_AT_END, 0, 0);
+    EXPECT_ROOM(0, bytes, 3);
+    EXPECT_SAME(ran.next.phy, fresh);
+    EXPECT(ran.next.base, 1994);
+    EXPECT(ran.next.base_set, 1);
+    ran = louravela_phy_run(fresh, stamped, sizeof stamped, 2, lend(), 2);
+    EXPECT(ran.next.base, 4294967290u);
+    ran = louravela_phy_run(ran.next.phy, stamped + 14, 6, ROOM, lend(), ROOM);
+    EXPECT_RAN(ran, 1, LOURAVELA_STOPPED_AT_END, 0, 0);
+    EXPECT_ROOM(0, bytes, 1);
+    EXPECT(ran.next.phy.timer, 1000);
+    EXPECT(ran.next.base, 1994);
+    ran = louravela_phy_run(fresh, above, sizeof above, ROOM, lend(), ROOM);
+    EXPECT_RAN(ran, 0, LOURAVELA_STOPPED_AT_FAULT, LOURAVELA_BAD_EVENT, 0);
+    EXPECT(ran.next.base_set, 0);
+}
+
 static void test_run_faults(void)
 {
     struct louravela_phy fresh = louravela_phy_fresh();
-    static const uint8_t bad_event[] = {0x0D, 0x10};
+    static const uint8_t bad_event[] = {0x0D, 0x11};
     /* two ticks, the second padded, and then a padded code that no event has */
-    static const uint8_t padded_16[] = {0x0D, 0x8D, 0x80, 0x00, 0x90, 0x00};
+    static const uint8_t padded_17[] = {0x0D, 0x8D, 0x80, 0x00, 0x91, 0x00};
     static const uint8_t too_large[] = {0x07, 0x80, 0x80, 0x80, 0x80, 0x80, 0x80, 0x80, 0x80, 0x80, 0x02};
     struct louravela_run_reply ran = louravela_phy_run(fresh, bad_event, sizeof bad_event, ROOM, lend(), ROOM);
 
@@ -89,7 +119,7 @@ static void test_run_faults(void)
     ran = louravela_phy_run(fresh, sample, 7, ROOM, lend(), ROOM);
     EXPECT_RAN(ran, 0, LOURAVELA_STOPPED_AT_FAULT, LOURAVELA_CUT, 0);
     EXPECT_ROOM(0, room, 0);
-    ran = louravela_phy_run(fresh, padded_16, sizeof padded_16, ROOM, lend(), ROOM);
+    ran = louravela_phy_run(fresh, padded_17, sizeof padded_17, ROOM, lend(), ROOM);
     EXPECT_RAN(ran, 2, LOURAVELA_STOPPED_AT_FAULT, LOURAVELA_BAD_EVENT, 4);
     ran = louravela_phy_run(fresh, too_large, sizeof too_large, ROOM, lend(), ROOM);
     EXPECT_RAN(ran, 0, LOURAVELA_STOPPED_AT_FAULT, LOURAVELA_TOO_LARGE, 0);
@@ -141,9 +171,12 @@ static void test_event_reads(void)
 {
     struct louravela_event_reply found = louravela_event_read(sample, sizeof sample, 0);
     struct louravela_event wanted = {LOURAVELA_TX_OPEN, 5, 1, 9, 300, 0, 0};
-    static const uint8_t code_16[] = {0x10};
+    static const uint8_t code_17[] = {0x11};
+    static const uint8_t stamp_alone[] = {0x10};
+    static const uint8_t counter_most[] = {0x10, 0xFF, 0xFF, 0xFF, 0xFF, 0x0F};
+    static const uint8_t counter_above[] = {0x10, 0x80, 0x80, 0x80, 0x80, 0x10};
     static const uint8_t rate_7[] = {0x01, 0x05, 0x01, 0x07};
-    static const uint8_t padded_16[] = {0x90, 0x00};
+    static const uint8_t padded_17[] = {0x91, 0x00};
     static const uint8_t large[] = {0x07, 0xFF, 0xFF, 0xFF, 0xFF, 0xFF, 0xFF, 0xFF, 0xFF, 0xFF, 0x80};
 
     EXPECT(found.how, LOURAVELA_FOUND_EVENT);
@@ -158,11 +191,17 @@ static void test_event_reads(void)
     EXPECT_END(sizeof sample, sizeof sample + 1);
     EXPECT_END(sizeof sample, SIZE_MAX);
     EXPECT_END(0, 0);
-    EXPECT_FAULT(code_16, sizeof code_16, 0, LOURAVELA_BAD_EVENT);
+    found = louravela_event_read(counter_most, sizeof counter_most, 0);
+    EXPECT(found.next, 6);
+    EXPECT(found.event.code, LOURAVELA_TIME_STAMP);
+    EXPECT(found.event.first, UINT32_MAX);
+    EXPECT_FAULT(counter_above, sizeof counter_above, 0, LOURAVELA_BAD_EVENT);
+    EXPECT_FAULT(stamp_alone, sizeof stamp_alone, 0, LOURAVELA_CUT);
+    EXPECT_FAULT(code_17, sizeof code_17, 0, LOURAVELA_BAD_EVENT);
     EXPECT_FAULT(rate_7, sizeof rate_7, 0, LOURAVELA_BAD_EVENT);
     EXPECT_FAULT(sample, 5, 0, LOURAVELA_CUT);
     EXPECT_FAULT(sample, 1, 0, LOURAVELA_CUT);
-    EXPECT_FAULT(padded_16, sizeof padded_16, 0, LOURAVELA_BAD_EVENT);
+    EXPECT_FAULT(padded_17, sizeof padded_17, 0, LOURAVELA_BAD_EVENT);
     EXPECT_FAULT(large, sizeof large, 0, LOURAVELA_TOO_LARGE);
 }
 
@@ -181,6 +220,7 @@ static void test_event_writes(void)
 {
     struct louravela_event event = {LOURAVELA_TX_OPEN, 5, 1, 9, 300, 0, 0};
     struct louravela_event unknown = event_of(0);
+    struct louravela_event stamp = event_of(LOURAVELA_TIME_STAMP);
     struct louravela_write_reply written = louravela_event_write(event, lend(), 8, 0);
 
     EXPECT(written.refusal, 0);
@@ -199,6 +239,12 @@ static void test_event_writes(void)
     EXPECT_EVENT_REFUSED(unknown, 0, SIZE_MAX, LOURAVELA_BAD_EVENT);
     event.fourth = 65536;
     EXPECT_EVENT_REFUSED(event, ROOM, 0, LOURAVELA_BAD_EVENT);
+    stamp.first = UINT32_MAX;
+    written = louravela_event_write(stamp, lend(), ROOM, 0);
+    EXPECT(written.length, 6);
+    EXPECT_ROOM(0, (const uint8_t *)"\x10\xFF\xFF\xFF\xFF\x0F", 6);
+    stamp.first++;
+    EXPECT_EVENT_REFUSED(stamp, ROOM, 0, LOURAVELA_BAD_EVENT);
 }
 
 /* ---- Numbers ---- */
@@ -282,6 +328,7 @@ void test_traces(void)
 {
     tested = __FILE__;
     test_runs();
+    test_stamped_runs();
     test_run_faults();
     test_run_refusals();
     test_event_reads();

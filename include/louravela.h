@@ -1,9 +1,10 @@
 /*
- * The port code of a SAS shelf for C99 and C++: one phy (link and port), dword synchronization,
- * identification, and the events of a trace. The archives are for x86-64; link those you call:
+ * The port code of a SAS shelf for C99 and C++: one phy (link and port), a bay (a phy with its recorder's clock),
+ * dword synchronization, identification, and the events of a trace. The archives are for x86-64; link those you call:
  *
  *     liblouravela.a          all but the functions below
  *     liblouravela_step.a     louravela_phy_step
+ *     liblouravela_bay.a      louravela_bay_step
  *     liblouravela_run.a      louravela_phy_run
  *     liblouravela_number.a   louravela_number_read, louravela_number_write
  *
@@ -25,7 +26,7 @@
 #include <stdint.h>
 
 /* The version of this header and of the archives that are built beside it. */
-#define LOURAVELA_VERSION "4.4.0"
+#define LOURAVELA_VERSION "4.5.0"
 
 #ifdef __cplusplus
 extern "C" {
@@ -90,7 +91,8 @@ enum {
     LOURAVELA_CLOSE_RECEIVED = 12,
     LOURAVELA_TICK = 13,
     LOURAVELA_HARD_RESET = 14,
-    LOURAVELA_PHY_DISABLED = 15
+    LOURAVELA_PHY_DISABLED = 15,
+    LOURAVELA_TIME_STAMP = 16           /* counter to 4,294,967,295; of bays and runs, a phy alone refuses it */
 };
 
 /* Answers to an Open; 0 says that there is none yet. */
@@ -182,6 +184,49 @@ struct louravela_stepped {
     uint64_t refusal;               /* 0 to 6 */
 };
 
+/* A fresh phy: idle, opens rejected. */
+struct louravela_phy louravela_phy_fresh(void);
+
+/* One event. */
+struct louravela_stepped louravela_phy_step(struct louravela_phy phy, struct louravela_event event);
+
+/* ---- A bay: a phy with its recorder's clock ---- */
+
+/*
+ * The recorder counts microseconds, of 32 bits, and goes round past 4,294,967,295. The first time stamp only sets the
+ * base; each later one stands for as many ticks as the counter has moved since the base, and becomes the base.
+ */
+struct louravela_bay {
+    struct louravela_phy phy;
+    uint64_t base;     /* the counter of the last stamp; zero where none has come */
+    uint64_t base_set; /* a flag: one has come */
+};
+
+/* A code, and the tick of the stamp's gap at which it came, counted from 1; 0 for any other event, or without a code. */
+struct louravela_report {
+    uint64_t code;
+    uint64_t tick;
+};
+
+/* What a step gives. Only a time stamp can give two notices. */
+struct louravela_bay_stepped {
+    struct louravela_bay next;
+    struct louravela_open answered; /* the arguments of the Open that is answered; zero without an answer */
+    struct louravela_report answer;
+    struct louravela_report notice;
+    struct louravela_report second_notice;
+    struct louravela_report sent;
+    uint64_t refusal;               /* 0 to 6 */
+};
+
+/* A fresh bay: a fresh phy, and no base. */
+struct louravela_bay louravela_bay_fresh(void);
+
+/* One event. A time stamp costs the same however many ticks it stands for. */
+struct louravela_bay_stepped louravela_bay_step(struct louravela_bay bay, struct louravela_event event);
+
+/* ---- Runs ---- */
+
 /* How a run stopped. */
 enum {
     LOURAVELA_STOPPED_AT_END = 0,
@@ -194,7 +239,7 @@ enum {
  * other field is zero, `how` too, so that `how` alone would say that the trace had ended.
  */
 struct louravela_run_reply {
-    struct louravela_phy next;
+    struct louravela_bay next; /* the base begins unset in each run */
     size_t count;     /* events taken; a refused event counts as taken */
     uint64_t how;     /* where nothing is refused */
     uint64_t fault;   /* stopped at a fault: its number, 2, 7 or 9, else 0 */
@@ -202,16 +247,11 @@ struct louravela_run_reply {
     uint64_t refusal; /* 0, 1 or 10 */
 };
 
-/* A fresh phy: idle, opens rejected. */
-struct louravela_phy louravela_phy_fresh(void);
-
-/* One event. */
-struct louravela_stepped louravela_phy_step(struct louravela_phy phy, struct louravela_event event);
-
 /*
  * The events of a trace, until it ends, `budget` events are taken, or it has a fault, looked for in
  * that order. For each event taken one byte of the buffer is written: its refusal, or else its answer,
- * or else 0. Later bytes keep their values. A buffer shorter than the budget is refused with 10.
+ * or else 0. Later bytes keep their values. A buffer shorter than the budget is refused with 10. The first
+ * time stamp of a run only sets the base, also where the trace is run in pieces.
  */
 struct louravela_run_reply louravela_phy_run(struct louravela_phy phy, const uint8_t *trace, size_t trace_length,
                                              size_t budget, uint8_t *buffer, size_t buffer_length);

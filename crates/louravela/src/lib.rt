@@ -1,9 +1,12 @@
-// The library's functions under their C names: the fresh phy, the two machines beside it, and events of
-// a trace. The phy's step, its runs and numbers stand in archives of their own, since they are hot.
+// The library's functions under their C names: the fresh phy and bay, the two machines beside them, and
+// events of a trace. Steps of a phy and of a bay, runs and numbers stand in archives of their own, since
+// they are hot.
+ghost use Rattle.bay.specs.Contracts.{StartsFresh as Bay·StartsFresh};
 ghost use Rattle.dws.specs.Contracts.{StartsFresh as Dws·StartsFresh, Steps as Dws·Steps};
 ghost use Rattle.identify.specs.Contracts.{StartsFresh as Identify·StartsFresh, Steps as Identify·Steps};
 ghost use Rattle.phy.specs.Contracts.{StartsFresh as Phy·StartsFresh};
 ghost use Rattle.replies.specs.Contracts.{ReadsEvent, WritesEvent};
+use bay::Bay;
 use event::Event;
 use identify::Identification;
 use phy::Phy;
@@ -15,6 +18,13 @@ pub extern "C" fn louravela_phy_fresh() -> Phy
     ensures { λ r. ⌜ Phy·StartsFresh r ⌝ }
 {
     phy::fresh()
+}
+
+#[no_mangle]
+pub extern "C" fn louravela_bay_fresh() -> Bay
+    ensures { λ r. ⌜ Bay·StartsFresh r ⌝ }
+{
+    bay::fresh()
 }
 
 #[no_mangle]
