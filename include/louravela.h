@@ -193,12 +193,14 @@ struct louravela_stepped louravela_phy_step(struct louravela_phy phy, struct lou
 /* ---- A bay: a phy with its recorder's clock ---- */
 
 /*
- * The recorder counts microseconds, of 32 bits, and goes round past 4,294,967,295. The first time stamp only sets the
- * base; each later one stands for as many ticks as the counter has moved since the base, and becomes the base.
+ * The recorder's counter of microseconds has 32 bits and goes round past 4,294,967,295. The first time stamp only sets
+ * the base; each later one stands for as many ticks as the counter has moved since the base, and becomes the base.
+ * Equal stamps are no tick, and one step back is 4,294,967,295. Ticks come besides and leave the base, as a reset does.
+ * Of more than one round between two stamps, 71 minutes and 34 seconds, whole rounds are lost.
  */
 struct louravela_bay {
     struct louravela_phy phy;
-    uint64_t base;     /* the counter of the last stamp; zero where none has come */
+    uint64_t base;     /* the counter of the last stamp, of 32 bits; zero where none has come. Else the state is bad */
     uint64_t base_set; /* a flag: one has come */
 };
 
@@ -222,7 +224,7 @@ struct louravela_bay_stepped {
 /* A fresh bay: a fresh phy, and no base. */
 struct louravela_bay louravela_bay_fresh(void);
 
-/* One event. A time stamp costs the same however many ticks it stands for. */
+/* One event. A time stamp costs the same however many ticks it stands for, but for two moves of the link at most. */
 struct louravela_bay_stepped louravela_bay_step(struct louravela_bay bay, struct louravela_event event);
 
 /* ---- Runs ---- */
@@ -251,7 +253,8 @@ struct louravela_run_reply {
  * The events of a trace, until it ends, `budget` events are taken, or it has a fault, looked for in
  * that order. For each event taken one byte of the buffer is written: its refusal, or else its answer,
  * or else 0. Later bytes keep their values. A buffer shorter than the budget is refused with 10. The first
- * time stamp of a run only sets the base, also where the trace is run in pieces.
+ * time stamp of a run only sets the base, also where the trace is run in pieces: for a clock that goes on, read each
+ * event by louravela_event_read and take it by louravela_bay_step.
  */
 struct louravela_run_reply louravela_phy_run(struct louravela_phy phy, const uint8_t *trace, size_t trace_length,
                                              size_t budget, uint8_t *buffer, size_t buffer_length);
