@@ -35,7 +35,7 @@ static void take(struct drive_bay *bay, struct louravela_event event)
         printf("bay %d: label for drive %" PRIx64 ", after %" PRIu64 " us\n", bay->number, step.answered.destination,
                microseconds(step.answered.wait));
     } else {
-        printf("bay %d: no label, answer %" PRIu64 ", %" PRIu64 " us after the last stamp\n", bay->number,
+        printf("bay %d: no label, answer %" PRIu64 ", %" PRIu64 " us after the stamp before\n", bay->number,
                step.answer.code, step.answer.tick);
     }
 }

@@ -196,7 +196,7 @@ struct louravela_stepped louravela_phy_step(struct louravela_phy phy, struct lou
  * The recorder's counter of microseconds has 32 bits and goes round past 4,294,967,295. The first time stamp only sets
  * the base; each later one stands for as many ticks as the counter has moved since the base, and becomes the base.
  * Equal stamps are no tick, and one step back is 4,294,967,295. Ticks come besides and leave the base, as a reset does.
- * Of more than one round between two stamps, 71 minutes and 34 seconds, whole rounds are lost.
+ * Of more than one round between two stamps, 71.6 minutes, whole rounds are lost.
  */
 struct louravela_bay {
     struct louravela_phy phy;

@@ -1,5 +1,6 @@
 pub mod Ticks
 pub mod AtMost
+pub mod Last
 pub mod Rest
 pub mod Steps
 pub mod Refusals

@@ -1,5 +1,5 @@
 -- A step of a bay is a gap, or the phy's own step with the base kept: so what holds of a phy's holds of a bay's.
-use Prim.Native.Nat.{ℕ, _+_, _-_, _≤_, _<_}
+use Prim.Native.Nat.{ℕ, _+_, _-_, _%_, _^_, _≤_, _<_}
 use mathlib.Core.Bool.{true, false}
 use mathlib.Core.List.{[], _∷_}
 use mathlib.Core.Path.{_≡_, sym, ap, _∙_}
@@ -25,7 +25,7 @@ use Rattle.bay.specs.declared.Bay.{Bay}
 use Rattle.bay.specs.declared.Stepped.{Stepped}
 use Rattle.bay.proofs.Legs.{after-ticks}
 use Rattle.bay.proofs.Steps.{phy-valid, base-few}
-use Rattle.bay_laws.specs.Laws.{FreshValid, StaysValid, OthersArePhys, StampsAreBase}
+use Rattle.bay_laws.specs.Laws.{FreshValid, StaysValid, OthersArePhys, StampsAreBase, FirstOnlySets, LaterIsGap}
 use Rattle.bay_laws.specs.Gaps.{StampBetween}
 use Rattle.bay_laws.proofs.Rest.{after-valid}
 
@@ -49,6 +49,10 @@ a-gap b e v t = rw (v, t)
 
 pub stamps-are-base : StampsAreBase
 stamps-are-base b e v t = let q = a-gap b e v t in record { base = ap (λ (r : Stepped). r .next .base) q; set = ap (λ (r : Stepped). r .next .baseSet) q }
+
+pub first-only-sets : FirstOnlySets
+unfolding gapOf
+first-only-sets b e v t f = a-gap b e v t ∙ rw f
 
 -- ---- validity
 
@@ -94,6 +98,17 @@ way-adds base counter last b c d h =
 
 is-stamp : (counter : ℕ) → counter ≤ mostCounter → isStamp (stampOf counter) ≡ true
 is-stamp counter h = rw (stamps counter h)
+
+-- a counter that has gone n from a base has moved n
+moved-on : (base n : ℕ) → base ≤ mostCounter → n ≤ mostCounter → counterMoved base ((base + n) % 2 ^ 32) ≡ n
+unfolding counterMoved
+moved-on base n b h = omega arith
+
+pub later-is-gap : LaterIsGap
+later-is-gap b n v t h =
+    let counter = (b .base + n) % 2 ^ 32 in
+    let m : ticksTo b counter ≡ n = rw t (moved-on (b .base) n (base-few b v t) h) in
+    a-gap b (stampOf counter) v (is-stamp counter (omega arith)) ∙ ap (λ (k : ℕ). passed (gapOf (b .phy) k) counter) m
 
 pub stamp-between : StampBetween
 unfolding gapOf

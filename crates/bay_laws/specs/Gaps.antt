@@ -18,7 +18,7 @@ use Rattle.ledger.specs.Log.{after}
 use Rattle.ledger.specs.Demand.{plain}
 use Rattle.bay.specs.State.{validOf}
 use Rattle.bay.specs.Gap.{ticks, report, codeAt, gapOf}
-use Rattle.bay.specs.Step.{counterMoved, ticksTo, stepOf}
+use Rattle.bay.specs.Step.{passed, lastNotice, counterMoved, ticksTo, stepOf}
 use Rattle.bay.specs.declared.Bay.{Bay}
 use Rattle.bay.specs.declared.Report.{Report}
 
@@ -65,6 +65,22 @@ pub record Few (p : Phy) (n : ℕ) : Type 0 where
 
 abbrev pub AtMost : Type 0
 AtMost = (p : Phy) (n : ℕ) → phy.validOf p ≡ true → Few p n
+
+-- ---- the last of a gap (proofs/Last)
+
+-- the last code of a list of reports; 0 where there is none
+abbrev pub lastCode : List Report → ℕ
+lastCode [] = 0
+lastCode (r ∷ []) = r .code
+lastCode (r ∷ s ∷ rs) = lastCode (s ∷ rs)
+
+-- what a listing has of a gap is its last notice and its last primitive
+pub record ListsLast (p : Phy) (n counter : ℕ) : Type 0 where
+  pub notice : lastNotice (passed (gapOf p n) counter) ≡ lastCode (gapOf p n .notices)
+  pub sent : passed (gapOf p n) counter .sent .code ≡ lastCode (gapOf p n .sents)
+
+abbrev pub LastAreLast : Type 0
+LastAreLast = (p : Phy) (n counter : ℕ) → phy.validOf p ≡ true → ListsLast p n counter
 
 -- ---- rest (proofs/Rest)
 

@@ -1,19 +1,22 @@
 -- What holds of every step of a bay. A heading names the file of proofs/.
-use Prim.Native.Nat.{_<_}
+use Prim.Native.Nat.{ℕ, _+_, _%_, _^_, _≤_, _<_}
 use mathlib.Core.Bool.{true, false}
 use mathlib.Core.Logic.{_↔_, _⊎_}
 use mathlib.Core.Path.{_≡_}
-use Rattle.table.specs.Flags.{on}
+use Rattle.table.specs.Flags.{on, isOn}
 use Rattle.table.specs.Refusals.{badState, badEvent, busy, nothingPending, notConnected, wrongProtocol}
-use Rattle.event.specs.Names.{SMP, txOpen, cancelOpen, closeConnection, smpTransmitBreak}
-use Rattle.event.specs.Table.{knownInTrace}
+use Rattle.event.specs.Names.{SMP, txOpen, cancelOpen, closeConnection, smpTransmitBreak, mostCounter}
+use Rattle.event.specs.Table.{knownInTrace, stampOf}
 use Rattle.event.specs.declared.Event.{Event}
 use Rattle.phy.specs.Names.{L3, P1, P2}
+use Rattle.phy.specs.Shapes.{noOpen}
 use Rattle.phy.specs.Step as phy
 use Rattle.phy_laws.specs.Laws.{Free}
 use Rattle.bay.specs.State.{validOf, freshBay}
-use Rattle.bay.specs.Step.{atOnce, refused, isStamp, stepOf}
+use Rattle.bay.specs.Gap.{gapOf}
+use Rattle.bay.specs.Step.{noReport, atOnce, passed, refused, isStamp, stepOf}
 use Rattle.bay.specs.declared.Bay.{Bay}
+use Rattle.bay.specs.declared.Stepped.{Stepped}
 
 -- ---- validity (proofs/Steps)
 
@@ -39,6 +42,31 @@ pub record Based (b : Bay) (e : Event) : Type 0 where
 
 abbrev pub StampsAreBase : Type 0
 StampsAreBase = (b : Bay) (e : Event) → validOf b ≡ true → isStamp e ≡ true → Based b e
+
+-- a base is set, and nothing else is done
+abbrev pub onlyBased : Bay → (counter : ℕ) → Stepped
+onlyBased b counter =
+    record {
+      next = record { phy = b .phy; base = counter; baseSet = on };
+      answered = noOpen;
+      answer = noReport;
+      notice = noReport;
+      secondNotice = noReport;
+      sent = noReport;
+      refusal = 0;
+    }
+
+-- the first stamp only sets the base
+abbrev pub FirstOnlySets : Type 0
+FirstOnlySets =
+    (b : Bay) (e : Event) → validOf b ≡ true → isStamp e ≡ true → isOn (b .baseSet) ≡ false
+    → stepOf b e ≡ onlyBased b (e .first)
+
+-- a later one is as many ticks as its counter has moved: n from the base on, round past the end of 32 bits
+abbrev pub LaterIsGap : Type 0
+LaterIsGap =
+    (b : Bay) (n : ℕ) → validOf b ≡ true → isOn (b .baseSet) ≡ true → n ≤ mostCounter
+    → stepOf b (stampOf ((b .base + n) % 2 ^ 32)) ≡ passed (gapOf (b .phy) n) ((b .base + n) % 2 ^ 32)
 
 -- ---- refused, nothing changes (proofs/Refusals)
 
