@@ -18,6 +18,7 @@ use Rattle.phy.specs.Ticks.{longer, waitedOf, aged, onTick}
 use Rattle.phy.specs.Step.{moveOf, stepOf}
 use Rattle.phy.specs.declared.Phy.{Phy}
 use Rattle.phy.specs.declared.Stepped.{Stepped}
+use Rattle.phy_laws.specs.Waiting.{rests}
 use Rattle.phy_laws.proofs.Shapes.{facts}
 use Rattle.phy_laws.proofs.OneStep.{wait-known}
 use Rattle.phy_laws.proofs.InUse.{part-in-use}
@@ -29,7 +30,7 @@ use Rattle.ledger.specs.Wait.{waitedFor, InP2}
 use Rattle.ledger.specs.Demand.{plain}
 use Rattle.ledger.proofs.Wait.{waited-none, longer-waited}
 use Rattle.bay.specs.Gap.{ticks, inOrder}
-use Rattle.bay.specs.Legs.{rests, calm, later}
+use Rattle.bay.specs.Legs.{calm, later}
 
 -- ---- one tick
 
@@ -98,14 +99,14 @@ ticked-later p n =
 
 module _ (p : Phy) (v : validOf p ≡ true) where
   abbrev CalmFor : ℕ → Type 0
-  CalmFor n = rests p || leb n (calm p) ≡ true
+  CalmFor n = rests (p .link) || leb n (calm p) ≡ true
 
   fewer : (j n : ℕ) → j ≤ n → CalmFor n → CalmFor j
-  fewer j n l h = by-test (rests p) (λ t. rw t) (λ f. rw f (le-leb j (calm p) (omega (arith, leb-true n (calm p) (rw f at h)))))
+  fewer j n l h = by-test (rests (p .link)) (λ t. rw t) (λ f. rw f (le-leb j (calm p) (omega (arith, leb-true n (calm p) (rw f at h)))))
 
   still-calm : (j n : ℕ) → j < n → CalmFor n → isCalm (later p j) ≡ true
   unfolding later
-  still-calm j n l h = by-test (rests p) (λ t. rw t) (λ f. rw f (le-leb 2 (p .timer - j) (omega (arith, leb-true n (calm p) (rw f at h)))))
+  still-calm j n l h = by-test (rests (p .link)) (λ t. rw t) (λ f. rw f (le-leb 2 (p .timer - j) (omega (arith, leb-true n (calm p) (rw f at h)))))
 
   -- each of them leads one further
   one-later : (j n : ℕ) → j < n → CalmFor n → validOf (later p j) ≡ true → stepOf (later p j) (plain tick) ≡ quiet (later p (suc j))

@@ -17,6 +17,7 @@ use Rattle.phy.specs.Ticks.{lastTick}
 use Rattle.phy.specs.Step.{stepOf}
 use Rattle.phy.specs.declared.Phy.{Phy}
 use Rattle.phy.specs.declared.Stepped.{Stepped}
+use Rattle.phy_laws.specs.Waiting.{rests}
 use Rattle.phy_laws.proofs.Ticking.{isCalm, ticked, movesLeft}
 use Rattle.phy_laws.proofs.Steps.{stays-valid}
 use Rattle.phy_laws.proofs.Answers.{arguments-exactly}
@@ -24,7 +25,7 @@ use Rattle.ledger.specs.Log.{Entry, log, after}
 use Rattle.ledger.specs.Demand.{plain}
 use Rattle.ledger.proofs.Log.{after-append, log-append, length-log}
 use Rattle.bay.specs.Gap.{ticks, inOrder}
-use Rattle.bay.specs.Legs.{rests, calm, later, leg, legOf}
+use Rattle.bay.specs.Legs.{calm, later, leg, legOf}
 use Rattle.bay.specs.declared.Leg.{Leg}
 use Rattle.bay.proofs.Calm.{ticking, ticked-later, later-valid, calm-leads, calm-silent}
 
@@ -63,14 +64,14 @@ pub record Passes (p : Phy) (n : ℕ) (l : Leg) : Type 0 where
   pub none : l .stepped .answer ≡ 0 → l .stepped .answered ≡ noOpen
 
 -- where it does not take all ticks, the one behind its calm ones moves the link
-module _ (p : Phy) (n : ℕ) (f : rests p || leb n (calm p) ≡ false) where
-  none-rests : rests p ≡ false
-  none-rests = by-test (rests p) (λ t. absurd (true≢false (rw t at f))) (λ r. r)
+module _ (p : Phy) (n : ℕ) (f : rests (p .link) || leb n (calm p) ≡ false) where
+  none-rests : rests (p .link) ≡ false
+  none-rests = by-test (rests (p .link)) (λ t. absurd (true≢false (rw t at f))) (λ r. r)
 
   pub enough : calm p < n
   enough = leb-false n (calm p) (rw none-rests at f)
 
-  calm-first : rests p || leb (calm p) (calm p) ≡ true
+  calm-first : rests (p .link) || leb (calm p) (calm p) ≡ true
   calm-first = rw (none-rests, le-leb (calm p) (calm p) (omega arith))
 
   then-moves : isCalm (later p (calm p)) ≡ false
@@ -81,7 +82,7 @@ module _ (p : Phy) (n : ℕ) (v : validOf p ≡ true) where
   pub passes : Passes p n (legOf p n)
   unfolding legOf later
   passes =
-      by-pick (Passes p n) (rests p || leb n (calm p))
+      by-pick (Passes p n) (rests (p .link) || leb n (calm p))
       (λ t. record { leads = calm-leads p v n t; valid = later-valid p v n t; few = omega arith; nearer = inl refl; none = λ _. refl })
       (λ f. let c = calm-first p n f in
       let w = later-valid p v (calm p) c in
@@ -94,11 +95,11 @@ module _ (p : Phy) (n : ℕ) (v : validOf p ≡ true) where
       })
 
   -- what the code's leg gives, by its test
-  pub whole : {r : Stepped} → rests p || leb n (calm p) ≡ true → r ≡ quiet (later p n) → leg r n ≡ legOf p n
+  pub whole : {r : Stepped} → rests (p .link) || leb n (calm p) ≡ true → r ≡ quiet (later p n) → leg r n ≡ legOf p n
   unfolding legOf
   whole t e = rw (t, e)
 
-  pub partly : {r : Stepped} → rests p || leb n (calm p) ≡ false → r ≡ lastTick (later p (calm p + 1)) → leg r (calm p + 1) ≡ legOf p n
+  pub partly : {r : Stepped} → rests (p .link) || leb n (calm p) ≡ false → r ≡ lastTick (later p (calm p + 1)) → leg r (calm p + 1) ≡ legOf p n
   unfolding legOf
   partly {r} f e =
       let w = later-valid p v (calm p) (calm-first p n f) in
@@ -109,7 +110,7 @@ module _ (p : Phy) (n : ℕ) (v : validOf p ≡ true) where
       → inOrder reported (suc at) (log stepOf p (ticks (legOf p n .ticks))) ≡ reported (at + legOf p n .ticks) (legOf p n .stepped)
   unfolding legOf
   reports reported silent at =
-      by-pick (λ (l : Leg). inOrder reported (suc at) (log stepOf p (ticks (l .ticks))) ≡ reported (at + l .ticks) (l .stepped)) (rests p || leb n (calm p))
+      by-pick (λ (l : Leg). inOrder reported (suc at) (log stepOf p (ticks (l .ticks))) ≡ reported (at + l .ticks) (l .stepped)) (rests (p .link) || leb n (calm p))
       (λ t. calm-silent p v reported silent n (suc at) t ∙ sym (silent (at + n) (later p n)))
       (λ f. let c = calm-first p n f in
       order-ticks reported p (suc at) (calm p) 1

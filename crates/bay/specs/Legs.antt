@@ -1,13 +1,13 @@
 -- How the code passes a gap: not tick by tick, but in two legs, each up to the tick that moves the link. What a gap is
 -- stands in Gap alone; here is what the code's own functions promise each other.
 use Prim.Native.Nat.{ℕ, _+_, _-_, _≤_}
-use mathlib.Core.Bool.{Bool, true, _||_}
+use mathlib.Core.Bool.{true, _||_}
 use mathlib.Core.Path.{_≡_}
 use lib.Dec.{eqb, leb}
 use Rattle.table.specs.Choice.{pick}
 use Rattle.table.specs.Flags.{on}
 use Rattle.event.specs.Names.{mostCounter, tick}
-use Rattle.phy.specs.Names.{L0, L3, P2}
+use Rattle.phy.specs.Names.{P2}
 use Rattle.phy.specs.Shapes.{withTimer, withWaited, quiet}
 use Rattle.phy.specs.State.{validOf}
 use Rattle.phy.specs.Ticks.{waitedOf}
@@ -15,6 +15,7 @@ use Rattle.phy.specs.Step.{stepOf}
 use Rattle.phy.specs.declared.Waited.{Waited}
 use Rattle.phy.specs.declared.Phy.{Phy}
 use Rattle.phy.specs.declared.Stepped.{Stepped as PhyStepped}
+use Rattle.phy_laws.specs.Waiting.{rests}
 use Rattle.ledger.specs.Wait.{waitedFor}
 use Rattle.ledger.specs.Demand.{plain}
 use Rattle.bay.specs.Gap.{report}
@@ -28,11 +29,7 @@ pub record Ready (p : Phy) (n : ℕ) : Type 0 where
   pub valid : validOf p ≡ true
   pub few : n ≤ mostCounter
 
--- no tick moves the link
-abbrev pub rests : Phy → Bool
-rests p = eqb (p .link) L0 || eqb (p .link) L3
-
--- else so many ticks come before the one that does
+-- where a link does not rest, so many ticks come before the one that moves it
 abbrev pub calm : Phy → ℕ
 calm p = p .timer - 1
 
@@ -51,7 +48,7 @@ leg r ticks = record { stepped = r; ticks = ticks }
 -- up to the tick that moves the link, or all n where none of them does
 unfoldable pub legOf : Phy → (n : ℕ) → Leg
 legOf p n =
-    pick (rests p || leb n (calm p)) (leg (quiet (later p n)) n)
+    pick (rests (p .link) || leb n (calm p)) (leg (quiet (later p n)) n)
     (leg (stepOf (later p (calm p)) (plain tick)) (calm p + 1))
 
 -- a code at a tick; none where it is 0

@@ -1,12 +1,13 @@
 -- Demand 3 with stamps: event by event a bay does what its phy does on the spelled-out list, of which demand 3 holds.
 use Prim.Native.Nat.{ℕ, zero, suc, _+_, _≤_}
-use mathlib.Core.Bool.{true, false}
+use mathlib.Core.Bool.{Bool, true, false}
 use mathlib.Core.List.{List, [], _∷_, _++_, append-nil, append-assoc}
 use mathlib.Core.Path.{_≡_, refl, sym, ap, ap₂, subst, _∙_}
 use native.Mathlib.Omega.{arith}
 use borrow.Author.Tests.{eq-eqb, ne-eqb, eqb-true}
 use lib.Dec.{eqb}
-use lib.ListN.{length, getD}
+use lib.ListN.{length, getD, length-append}
+use Rattle.table.specs.Choice.{pick}
 use Rattle.table.proofs.Laws.{by-test, parts}
 use Rattle.event.specs.Names.{txOpen, tick, timeStamp}
 use Rattle.event.specs.Table.{knownInTrace, openOf}
@@ -30,30 +31,27 @@ use Rattle.bay.specs.Log.{log, after}
 use Rattle.bay.specs.declared.Bay.{Bay}
 use Rattle.bay.specs.declared.Stepped.{Stepped}
 use Rattle.bay.proofs.Steps.{phy-valid}
-use Rattle.bay_laws.specs.Spelled.{inTicks, spelledOut, Answer, openIf, answerIf, opensOf, answersOf, bayOpens, bayAnswers, SpelledOut, AnsweredByStamps}
+use Rattle.bay_laws.specs.Spelled.{inTicks, spelledOut, Answer, openIf, answerIf, gathered, opensOf, answersOf, bayOpens, bayAnswers, SpelledOut, AnsweredByStamps}
 use Rattle.bay_laws.proofs.AtMost.{answers}
 use Rattle.bay_laws.proofs.Steps.{others-are-phys, a-gap, fresh-valid, stays-valid}
 
 -- ---- lists of a log
 
-opens-append : (xs ys : List ledger.Entry) → opensOf (xs ++ ys) ≡ opensOf xs ++ opensOf ys
-opens-append [] ys = refl
-opens-append (x ∷ xs) ys =
-    ap (λ (l : List Open). openIf (x .event) (x .result .refusal) ++ l) (opens-append xs ys) ∙ sym (append-assoc (openIf (x .event) (x .result .refusal)) (opensOf xs) (opensOf ys))
+module _ {A : Type 0} (given : ledger.Entry → List A) where
+  gathered-append : (xs ys : List ledger.Entry) → gathered given (xs ++ ys) ≡ gathered given xs ++ gathered given ys
+  gathered-append [] ys = refl
+  gathered-append (x ∷ xs) ys = ap (λ (l : List A). given x ++ l) (gathered-append xs ys) ∙ sym (append-assoc (given x) (gathered given xs) (gathered given ys))
 
-answers-append : (xs ys : List ledger.Entry) → answersOf (xs ++ ys) ≡ answersOf xs ++ answersOf ys
-answers-append [] ys = refl
-answers-append (x ∷ xs) ys =
-    ap (λ (l : List Answer). answerIf (x .result .answer) (x .result .answered) ++ l) (answers-append xs ys) ∙ sym (append-assoc (answerIf (x .result .answer) (x .result .answered)) (answersOf xs) (answersOf ys))
+  -- as many as pass a test, where each that does gives one
+  many-gathered : (test : ledger.Entry → Bool) → ((x : ledger.Entry) → length (given x) ≡ pick (test x) 1 0) → (xs : List ledger.Entry) → length (gathered given xs) ≡ many test xs
+  many-gathered test h [] = refl
+  many-gathered test h (x ∷ xs) = omega (arith, length-append (given x) (gathered given xs), h x, many-gathered test h xs)
 
--- as many as the log counts
 many-opens : (xs : List ledger.Entry) → length (opensOf xs) ≡ many ledger.accepted xs
-many-opens [] = refl
-many-opens (x ∷ xs) = by-test (ledger.accepted x) (λ t. rw t (omega (arith, many-opens xs))) (λ f. rw f (omega (arith, many-opens xs)))
+many-opens = many-gathered _ ledger.accepted (λ x. by-test (ledger.accepted x) (λ t. rw t) (λ f. rw f))
 
 many-answers : (xs : List ledger.Entry) → length (answersOf xs) ≡ many answered xs
-many-answers [] = refl
-many-answers (x ∷ xs) = by-test (eqb (x .result .answer) 0) (λ t. rw t (omega (arith, many-answers xs))) (λ f. rw f (omega (arith, many-answers xs)))
+many-answers = many-gathered _ answered (λ x. by-test (eqb (x .result .answer) 0) (λ t. rw t) (λ f. rw f))
 
 none-answered : (xs : List ledger.Entry) → many answered xs ≡ 0 → answersOf xs ≡ []
 none-answered [] z = refl
@@ -128,8 +126,8 @@ all (e ∷ es) b v =
     log-append phy.stepOf (b .phy) (inTicks b e) behind ∙ ap (λ (q : Phy). ledger.log phy.stepOf (b .phy) (inTicks b e) ++ ledger.log phy.stepOf q behind) p in
     record {
       leads = xs .leads ∙ ap (λ (q : Phy). ledger.after phy.stepOf q behind) (sym p) ∙ sym (after-append phy.stepOf (b .phy) (inTicks b e) behind);
-      opens = ap₂ _++_ (x .opens) (xs .opens) ∙ sym (ap opensOf l ∙ opens-append (ledger.log phy.stepOf (b .phy) (inTicks b e)) (ledger.log phy.stepOf (next .phy) behind));
-      answered = ap₂ _++_ (x .answered) (xs .answered) ∙ sym (ap answersOf l ∙ answers-append (ledger.log phy.stepOf (b .phy) (inTicks b e)) (ledger.log phy.stepOf (next .phy) behind));
+      opens = ap₂ _++_ (x .opens) (xs .opens) ∙ sym (ap opensOf l ∙ gathered-append _ (ledger.log phy.stepOf (b .phy) (inTicks b e)) (ledger.log phy.stepOf (next .phy) behind));
+      answered = ap₂ _++_ (x .answered) (xs .answered) ∙ sym (ap answersOf l ∙ gathered-append _ (ledger.log phy.stepOf (b .phy) (inTicks b e)) (ledger.log phy.stepOf (next .phy) behind));
     }
 
 pub after-valid : (es : List Event) (b : Bay) → validOf b ≡ true → validOf (after b es) ≡ true
@@ -162,7 +160,7 @@ first-answer p o fs w =
     let n : eqb (r .answer) 0 ≡ false = ne-eqb (r .answer) 0 (λ z. omega (arith, answer-least (r .answer) (w .code))) in
     ap (λ (es : List Event). answersOf (ledger.log phy.stepOf p es)) (w .whole)
     ∙ ap answersOf (log-append phy.stepOf p (w .before) (w .last ∷ w .rest))
-    ∙ answers-append (ledger.log phy.stepOf p (w .before)) (ledger.log phy.stepOf q (w .last ∷ w .rest))
+    ∙ gathered-append _ (ledger.log phy.stepOf p (w .before)) (ledger.log phy.stepOf q (w .last ∷ w .rest))
     ∙ rw (none-answered (ledger.log phy.stepOf p (w .before)) (w .none-answered), n)
 
 pub answered-by-stamps : AnsweredByStamps

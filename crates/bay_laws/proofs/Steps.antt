@@ -5,7 +5,7 @@ use mathlib.Core.List.{[], _∷_}
 use mathlib.Core.Path.{_≡_, sym, ap, _∙_}
 use native.Mathlib.Omega.{arith}
 use borrow.Author.Tests.{le-leb}
-use lib.Dec.{eqb, leb}
+use lib.Dec.{eqb}
 use Rattle.table.specs.Flags.{on}
 use Rattle.table.specs.Refusals.{badState}
 use Rattle.table.proofs.Laws.{by-pick, by-order, parts, all-hold}

@@ -1,7 +1,7 @@
 -- A gap is its single ticks, each report at its own; and one gap after another is one, with the later reports delayed.
 use Prim.Native.Nat.{ℕ, zero, suc, _+_, _-_}
-use mathlib.Core.Bool.{true, false, _&&_}
-use mathlib.Core.List.{List, [], _∷_, _++_, map, append-nil}
+use mathlib.Core.Bool.{_&&_}
+use mathlib.Core.List.{List, [], _∷_, _++_, map, append-nil, map-append}
 use mathlib.Core.Path.{_≡_, refl, sym, ap, ap₂, _∙_}
 use native.Mathlib.Numerals.{add-one}
 use native.Mathlib.Omega.{arith}
@@ -88,10 +88,6 @@ unfolding gapOf
 single-ticks p n = record { answers = has-of (λ r. r .answer) p n; notices = has-of (λ r. r .notice) p n; sents = has-of (λ r. r .sent) p n }
 
 -- ---- one gap after another
-
-map-append : (f : Report → Report) (xs ys : List Report) → map f (xs ++ ys) ≡ map f xs ++ map f ys
-map-append f [] ys = refl
-map-append f (x ∷ xs) ys = ap (λ (l : List Report). f x ∷ l) (map-append f xs ys)
 
 module _ (code : Stepped → ℕ) where
   delayed-code : (c m at : ℕ) → codeAt c (m + at) ≡ map (delayed m) (codeAt c at)

@@ -48,23 +48,24 @@ openIf e refusal = pick (eqb (e .code) txOpen && eqb refusal 0) (openOf e ∷ []
 abbrev pub answerIf : (code : ℕ) → Open → List Answer
 answerIf code o = pick (eqb code 0) [] (record { code = code; request = o } ∷ [])
 
--- those of a phy's log
+-- what the entries of a log give, in order
+abbrev pub gathered : {X A : Type 0} → (X → List A) → List X → List A
+gathered given [] = []
+gathered given (x ∷ xs) = given x ++ gathered given xs
+
+-- the acceptances and the answers of a phy's log
 abbrev pub opensOf : List ledger.Entry → List Open
-opensOf [] = []
-opensOf (x ∷ xs) = openIf (x .event) (x .result .refusal) ++ opensOf xs
+opensOf xs = gathered (λ x. openIf (x .event) (x .result .refusal)) xs
 
 abbrev pub answersOf : List ledger.Entry → List Answer
-answersOf [] = []
-answersOf (x ∷ xs) = answerIf (x .result .answer) (x .result .answered) ++ answersOf xs
+answersOf xs = gathered (λ x. answerIf (x .result .answer) (x .result .answered)) xs
 
 -- and of a bay's
 abbrev pub bayOpens : List Entry → List Open
-bayOpens [] = []
-bayOpens (x ∷ xs) = openIf (x .event) (x .result .refusal) ++ bayOpens xs
+bayOpens xs = gathered (λ x. openIf (x .event) (x .result .refusal)) xs
 
 abbrev pub bayAnswers : List Entry → List Answer
-bayAnswers [] = []
-bayAnswers (x ∷ xs) = answerIf (x .result .answer .code) (x .result .answered) ++ bayAnswers xs
+bayAnswers xs = gathered (λ x. answerIf (x .result .answer .code) (x .result .answered)) xs
 
 -- ---- demand 3
 

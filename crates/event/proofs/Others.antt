@@ -9,7 +9,7 @@ use lib.Dec.{eqb, leb, leb·zero}
 use lib.ListN.{length}
 use Rattle.table.specs.Choice.{pick}
 use Rattle.event.specs.Names.{txOpen, openReceived, openRejectReceived, timeStamp, mostCounter}
-use Rattle.event.specs.Table.{_to_, stampArguments, argumentsOf, argumentCount, rangeAt, argumentRange, within, argumentsKnown}
+use Rattle.event.specs.Table.{_to_, stampArguments, argumentsOf, argumentCount, rangeAt, argumentRange, argumentsKnown}
 use Rattle.event.specs.declared.Range.{Range}
 
 -- its arguments, and the most of the only one

@@ -2,7 +2,7 @@
 use Prim.Native.Nat.{ℕ, _+_, _-_, _*_, _≤_, _<_}
 use mathlib.Core.Bool.{Bool, true, false, _||_, false≢true}
 use mathlib.Core.List.{[], _∷_}
-use mathlib.Core.Path.{_≡_, refl, sym, ap}
+use mathlib.Core.Path.{_≡_, refl, sym, ap, _∙_}
 use native.Mathlib.Omega.{arith}
 use borrow.Author.Tests.{eqb-true, leb-true, leb-false}
 use lib.Dec.{eqb, leb}
@@ -16,17 +16,14 @@ use Rattle.phy.specs.Moves.{toIdle}
 use Rattle.phy.specs.Ticks.{aged, tickRequesting, tickClosing, tickBreaking, accepted, tickSelected, onTickAged, lastTick, onTick}
 use Rattle.phy.specs.declared.Phy.{Phy}
 use Rattle.phy.specs.declared.Stepped.{Stepped}
+use Rattle.phy_laws.specs.Waiting.{rests}
 use Rattle.phy_laws.proofs.Shapes.{Fields, phyOf, by-shape}
 use Rattle.phy_laws.proofs.OneStep.{at-least-one, at-most-full}
 use Rattle.phy_laws.proofs.InUse.{runs}
 
--- no tick moves the link
-abbrev pub resting : Phy → Bool
-resting p = eqb (p .link) L0 || eqb (p .link) L3
-
--- the next one does not
+-- the next tick does not move the link
 abbrev pub isCalm : Phy → Bool
-isCalm p = resting p || leb 2 (p .timer)
+isCalm p = rests (p .link) || leb 2 (p .timer)
 
 -- the phy after a tick that does not
 abbrev pub ticked : Phy → Phy
@@ -56,6 +53,7 @@ few-moves p =
     (omega arith, (omega arith, (omega arith, (omega arith, tt))))
     (omega arith)
 
+-- what one tick gives
 pub record Ticking (p : Phy) (r : Stepped) : Type 0 where
   pub rests : movesLeft p ≡ 0 → r ≡ quiet p
   pub calm : isCalm p ≡ true → r ≡ quiet (ticked p)
@@ -95,43 +93,64 @@ module _ (link port : ℕ) (f : Fields) where
   abbrev here : Phy
   here = phyOf link port f
 
-  -- what a tick that moves the link gives
-  abbrev Nearer : Stepped → Type 0
-  Nearer r =
-      (r ≡ lastTick (ticked here)) × (movesLeft (r .next) < movesLeft here) × (pick (eqb link (r .next .link)) 0 1 + movesLeft (r .next) ≤ movesLeft here)
-      × (pick (eqb (r .sent) 0) 0 1 + sendsLeft (r .next) ≤ sendsLeft here) × (ticksLeft (r .next) ≡ ticksLeft here - 1)
+  -- what every tick takes from what is left
+  abbrev Takes : Stepped → Type 0
+  Takes r =
+      (pick (eqb link (r .next .link)) 0 1 + movesLeft (r .next) ≤ movesLeft here) × (pick (eqb (r .sent) 0) 0 1 + sendsLeft (r .next) ≤ sendsLeft here)
+      × (ticksLeft (r .next) ≡ ticksLeft here - 1)
 
-  at-once : {r : Stepped} → resting here ≡ false → eqb (f .timer) 0 ≡ true → Nearer r → Ticking here r
-  at-once a t n = record { rests = λ z. absurd (omega (arith, n .1)); calm = λ c. none-runs (f .timer) t (rw a at c); last = λ _. n .0; moves = λ _. n .1; changes = n .2; sends = n .3; nears = n .4 }
+  -- one of a link that rests, and no request waits longer
+  at-rest : {r : Stepped} → rests link ≡ true → eqb (f .timer) 0 ≡ true → aged here ≡ here → r ≡ quiet here → Takes r → Ticking here r
+  at-rest a t g e n =
+      record {
+        rests = λ _. e;
+        calm = λ _. e ∙ ap (λ (k : ℕ). quiet (withTimer here k)) (stopped (f .timer) t) ∙ ap (λ (q : Phy). quiet (withTimer q (f .timer - 1))) (sym g);
+        last = λ c. absurd (false≢true (sym (rw a at c)));
+        moves = λ c. absurd (false≢true (sym (rw a at c)));
+        changes = n .0;
+        sends = n .1;
+        nears = n .2;
+      }
 
-  is-over : {r : Stepped} → resting here ≡ false → leb (f .timer) 1 ≡ true → Nearer r → Ticking here r
-  is-over a o n = record { rests = λ z. absurd (omega (arith, n .1)); calm = λ c. over-runs (f .timer) o (rw a at c); last = λ _. n .0; moves = λ _. n .1; changes = n .2; sends = n .3; nears = n .4 }
+  -- one that moves it
+  moves-it : {r : Stepped} → (isCalm here ≡ true → ⊥) → r ≡ lastTick (ticked here) → movesLeft (r .next) < movesLeft here → Takes r → Ticking here r
+  moves-it c e m n = record { rests = λ z. absurd (omega (arith, m)); calm = λ q. absurd (c q); last = λ _. e; moves = λ _. m; changes = n .0; sends = n .1; nears = n .2 }
+
+  at-once : {r : Stepped} → rests link ≡ false → eqb (f .timer) 0 ≡ true → r ≡ lastTick (ticked here) → movesLeft (r .next) < movesLeft here → Takes r → Ticking here r
+  at-once a t = moves-it (λ c. none-runs (f .timer) t (rw a at c))
+
+  is-over : {r : Stepped} → rests link ≡ false → leb (f .timer) 1 ≡ true → r ≡ lastTick (ticked here) → movesLeft (r .next) < movesLeft here → Takes r → Ticking here r
+  is-over a o = moves-it (λ c. over-runs (f .timer) o (rw a at c))
+
+  -- one that lets its timer run on
+  runs-down : {r : Stepped} → rests link ≡ false → leb (f .timer) 1 ≡ false → (movesLeft here ≡ 0 → ⊥) → r ≡ quiet (ticked here) → Takes r → Ticking here r
+  runs-down a u m e n = record { rests = λ z. absurd (m z); calm = λ _. e; last = λ c. runs-on (f .timer) u (rw a at c); moves = λ c. runs-on (f .timer) u (rw a at c); changes = n .0; sends = n .1; nears = n .2 }
 
 pub tick-at : (p : Phy) → validOf p ≡ true → Ticking p (onTick p)
 unfolding onTick lastTick onTickAged aged tickRequesting tickClosing tickBreaking tickSelected accepted toIdle
 tick-at =
     by-shape (λ p. Ticking p (onTick p))
-    (λ f v. record { rests = λ _. refl; calm = λ _. ap (λ (t : ℕ). quiet (withTimer (phyOf 0 1 f) t)) (stopped (f .timer) (v .timer)); last = λ e. absurd (false≢true (sym e)); moves = λ e. absurd (false≢true (sym e)); changes = omega arith; sends = omega arith; nears = refl })
+    (λ f v. at-rest 0 1 f refl (v .timer) refl refl (omega arith, omega arith, refl))
     (λ f v. by-pick (Ticking (phyOf 2 1 f)) (isOn (f .settings .accept))
-    (λ t. at-once 2 1 f refl (v .timer) (rw t, omega arith, omega arith, omega arith, refl))
-    (λ t. at-once 2 1 f refl (v .timer) (rw t, omega arith, omega arith, omega arith, refl)))
-    (λ f v. at-once 6 1 f refl (v .timer) (refl, omega arith, omega arith, omega arith, refl))
+    (λ t. at-once 2 1 f refl (v .timer) (rw t) (omega arith) (omega arith, omega arith, refl))
+    (λ t. at-once 2 1 f refl (v .timer) (rw t) (omega arith) (omega arith, omega arith, refl)))
+    (λ f v. at-once 6 1 f refl (v .timer) refl (omega arith) (omega arith, omega arith, refl))
     (λ f v. by-pick (Ticking (phyOf 1 2 f)) (leb (f .timer) 1)
-    (λ o. is-over 1 2 f refl o (refl, omega arith, omega arith, omega arith, omega (arith, at-least-one (f .timer) (runs refl v), leb-true (f .timer) 1 o)))
-    (λ u. record { rests = λ z. absurd (omega arith); calm = λ _. refl; last = runs-on (f .timer) u; moves = runs-on (f .timer) u; changes = omega arith; sends = omega arith; nears = omega (arith, leb-false (f .timer) 1 u) }))
+    (λ o. is-over 1 2 f refl o refl (omega arith) (omega arith, omega arith, omega (arith, at-least-one (f .timer) (runs refl v), leb-true (f .timer) 1 o)))
+    (λ u. runs-down 1 2 f refl u (λ z. omega arith) refl (omega arith, omega arith, omega (arith, leb-false (f .timer) 1 u))))
     (λ f v. by-pick (Ticking (phyOf 2 2 f)) (isOn (f .settings .accept))
-    (λ t. at-once 2 2 f refl (v .timer) (rw t, omega arith, omega arith, omega arith, refl))
-    (λ t. at-once 2 2 f refl (v .timer) (rw t, omega arith, omega arith, omega arith, refl)))
-    (λ f v. at-once 6 2 f refl (v .timer) (refl, omega arith, omega arith, omega arith, refl))
-    (λ f v. record { rests = λ _. refl; calm = λ _. ap (λ (t : ℕ). quiet (withTimer (phyOf 3 3 f) t)) (stopped (f .timer) (v .timer)); last = λ e. absurd (false≢true (sym e)); moves = λ e. absurd (false≢true (sym e)); changes = omega arith; sends = omega arith; nears = refl })
+    (λ t. at-once 2 2 f refl (v .timer) (rw t) (omega arith) (omega arith, omega arith, refl))
+    (λ t. at-once 2 2 f refl (v .timer) (rw t) (omega arith) (omega arith, omega arith, refl)))
+    (λ f v. at-once 6 2 f refl (v .timer) refl (omega arith) (omega arith, omega arith, refl))
+    (λ f v. at-rest 3 3 f refl (v .timer) refl refl (omega arith, omega arith, refl))
     (λ f v. by-pick (Ticking (phyOf 4 3 f)) (leb (f .timer) 1)
-    (λ o. is-over 4 3 f refl o (refl, omega arith, omega arith, omega arith, omega (arith, at-least-one (f .timer) (runs refl v), leb-true (f .timer) 1 o)))
-    (λ u. record { rests = λ z. absurd (omega arith); calm = λ _. refl; last = runs-on (f .timer) u; moves = runs-on (f .timer) u; changes = omega arith; sends = omega arith; nears = omega (arith, leb-false (f .timer) 1 u) }))
+    (λ o. is-over 4 3 f refl o refl (omega arith) (omega arith, omega arith, omega (arith, at-least-one (f .timer) (runs refl v), leb-true (f .timer) 1 o)))
+    (λ u. runs-down 4 3 f refl u (λ z. omega arith) refl (omega arith, omega arith, omega (arith, leb-false (f .timer) 1 u))))
     (λ f v. by-pick (Ticking (phyOf 5 3 f)) (leb (f .timer) 1)
-    (λ o. is-over 5 3 f refl o (refl, omega arith, omega arith, omega arith, omega (arith, leb-true (f .timer) 1 o)))
-    (λ u. record { rests = λ z. absurd (omega arith); calm = λ _. refl; last = runs-on (f .timer) u; moves = runs-on (f .timer) u; changes = omega arith; sends = omega arith; nears = refl }))
-    (λ f v. at-once 6 3 f refl (v .timer) (refl, omega arith, omega arith, omega arith, refl))
+    (λ o. is-over 5 3 f refl o refl (omega arith) (omega arith, omega arith, omega (arith, leb-true (f .timer) 1 o)))
+    (λ u. runs-down 5 3 f refl u (λ z. omega arith) refl (omega arith, omega arith, refl)))
+    (λ f v. at-once 6 3 f refl (v .timer) refl (omega arith) (omega arith, omega arith, refl))
     (λ f v. by-pick (Ticking (phyOf 5 4 f)) (leb (f .timer) 1)
-    (λ o. is-over 5 4 f refl o (refl, omega arith, omega arith, omega arith, omega (arith, leb-true (f .timer) 1 o)))
-    (λ u. record { rests = λ z. absurd (omega arith); calm = λ _. refl; last = runs-on (f .timer) u; moves = runs-on (f .timer) u; changes = omega arith; sends = omega arith; nears = refl }))
-    (λ f v. at-once 6 4 f refl (v .timer) (refl, omega arith, omega arith, omega arith, refl))
+    (λ o. is-over 5 4 f refl o refl (omega arith) (omega arith, omega arith, omega (arith, leb-true (f .timer) 1 o)))
+    (λ u. runs-down 5 4 f refl u (λ z. omega arith) refl (omega arith, omega arith, refl)))
+    (λ f v. at-once 6 4 f refl (v .timer) refl (omega arith) (omega arith, omega arith, refl))

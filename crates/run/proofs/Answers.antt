@@ -6,7 +6,7 @@ use mathlib.Core.Path.{_≡_, refl, sym, ap, ap₂, _∙_}
 use native.Mathlib.Omega.{arith}
 use borrow.Author.Tests.{eqb-false, eq-eqb, ne-eqb, le-leb}
 use lib.Dec.{eqb}
-use lib.ListN.{length}
+use lib.ListN.{length, length-map}
 use Rattle.table.specs.Refusals.{badState, badEvent, wrongProtocol}
 use Rattle.table.proofs.Laws.{by-test}
 use Rattle.event.specs.Table.{knownInTrace}
@@ -23,13 +23,13 @@ use Rattle.bay.specs.Step.{stepOf}
 use Rattle.bay.specs.Log.{log, after}
 use Rattle.bay.specs.declared.Bay.{Bay}
 use Rattle.bay.specs.declared.Stepped.{Stepped}
-use Rattle.bay_laws.specs.Spelled.{Answer, bayAnswers}
+use Rattle.bay_laws.specs.Spelled.{bayAnswers}
 use Rattle.bay_laws.proofs.Steps.{stays-valid}
 use Rattle.bay_laws.proofs.Refusals.{bad-state-exactly, bad-event-exactly, refused-keeps}
 use Rattle.bay_laws.proofs.Bytes.{none-or-answer, few-refusals}
 use Rattle.bay_laws.proofs.Spelled.{spelled-out}
 use Rattle.run.specs.Running.{taking, byteFor, byteOf, bytesOf, runOf}
-use Rattle.run.specs.Laws.{NeitherOneNorTwo, NoOneNorTwo, answersIn, codesOf, AnswersInOrder, RunsLawful}
+use Rattle.run.specs.Laws.{NeitherOneNorTwo, NoOneNorTwo, answersIn, AnswersInOrder, RunsLawful}
 use Rattle.run.proofs.Loop.{as-valid}
 use Rattle.run.proofs.Stopping.{stops-well-always}
 use Rattle.run.proofs.Written.{writes-taken}
@@ -67,11 +67,6 @@ answers-in-order b (e ∷ es) =
     (λ x y q. rw (x, y, q) (ap (λ (l : List ℕ). stepOf b e .answer .code ∷ l) (answers-in-order (stepOf b e .next) es)))
     (λ x y. rw (x, y) (answers-in-order (stepOf b e .next) es))
 
--- as many codes as answers
-many-codes : (more : List Answer) → length (codesOf more) ≡ length more
-many-codes [] = refl
-many-codes (a ∷ more) = omega (arith, many-codes more)
-
 pub runs-lawful : RunsLawful
 runs-lawful s budget buffer h =
     let es : List Event = taking budget s 0 .events in
@@ -80,7 +75,7 @@ runs-lawful s budget buffer h =
     record {
       lawful = spelled-out es;
       answers = given;
-      balance = spelled-out es .balance ∙ ap₂ (λ (m n : ℕ). m + n) (sym (ap length given ∙ many-codes (bayAnswers (log freshBay es)))) (ap (λ (b : Bay). oneIfWaiting (b .phy)) (sym state));
+      balance = spelled-out es .balance ∙ ap₂ (λ (m n : ℕ). m + n) (sym (ap length given ∙ length-map (bayAnswers (log freshBay es)) (λ a. a .code))) (ap (λ (b : Bay). oneIfWaiting (b .phy)) (sym state));
     }
 
 -- ---- neither 1 nor 2

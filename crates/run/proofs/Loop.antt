@@ -11,7 +11,6 @@ use lib.Dec.{leb, eqb}
 use lib.ListN.{length, set, length-set}
 use lib.Seq.{sets}
 use Rattle.table.specs.Refusals.{badState, noRoom}
-use Rattle.table.specs.Results.{Leaves}
 use Rattle.event.specs.Names.{timeStamp}
 use Rattle.event.specs.Table.{knownOf, stampOf}
 use Rattle.event.specs.declared.Event.{Event}
@@ -35,8 +34,8 @@ use Rattle.bay.proofs.Steps.{with-clock, phy-valid}
 use Rattle.bay_laws.proofs.Steps.{stays-valid, others-are-phys}
 use Rattle.bay_laws.proofs.Bytes.{are-bytes}
 use Rattle.run.specs.Running.{Halt, atEnd, atBudget, atFault, refused, Course, stops, first, taking, byteFor, byteOf, bytesOf, Told, told, toldOf, tellsStop, tells}
-use Rattle.run.specs.Contracts.{TakesEvents, Runs}
-use Rattle.run.specs.Stages.{Stage, ReadyOn, Comes, GoesOn}
+use Rattle.run.specs.Contracts.{Gives, TakesEvents, Runs}
+use Rattle.run.specs.Stages.{Stage, clocked, ReadyOn, Comes, GoesOn}
 use Rattle.run.specs.declared.Ran.{Ran}
 use Rattle.run.specs.declared.Stop.{Stop}
 use Rattle.run.specs.declared.Stop.the-variants.{End, Budget}
@@ -99,7 +98,7 @@ module _ {b : Bay} {s : List ℕ} {budget : ℕ} {before : List ℕ} {state : Ba
 
   -- ---- nothing more is taken
   halted : {halt : Halt} → taking (w .left) s place ≡ stops halt
-      → Leaves (told count state halt) (toldOf b (taking budget s 0)) buffer (sets before 0 (bytesOf b (taking budget s 0 .events)))
+      → Gives b s budget before (told count state halt) buffer
   halted {halt} t =
       record {
         says = sym (w .says ∙ rw t (ap (λ (n : ℕ). told n state halt) (omega arith)));
@@ -108,17 +107,17 @@ module _ {b : Bay} {s : List ℕ} {budget : ℕ} {before : List ℕ} {state : Ba
 
   -- the budget is spent before the trace's end
   pub halted-budget : place < length s → budget ≤ count
-      → Leaves (told count state atBudget) (toldOf b (taking budget s 0)) buffer (sets before 0 (bytesOf b (taking budget s 0 .events)))
+      → Gives b s budget before (told count state atBudget) buffer
   halted-budget h q = halted (ap (λ (n : ℕ). taking n s place) (none-left q) ∙ taking-spent s place h)
 
   -- a fault, with budget left
   pub halted-fault : {n first : ℕ} → count < budget → readEvent s place ≡ reading.refused n first
-      → Leaves (told count state (atFault n first)) (toldOf b (taking budget s 0)) buffer (sets before 0 (bytesOf b (taking budget s 0 .events)))
+      → Gives b s budget before (told count state (atFault n first)) buffer
   halted-fault h f = halted (ap (λ (n : ℕ). taking n s place) (some-left h) ∙ taking-fault s place fewer f)
 
   -- the trace has ended
   pub halted-end : length s ≤ place
-      → Leaves (told count state atEnd) (toldOf b (taking budget s 0)) buffer (sets before 0 (bytesOf b (taking budget s 0 .events)))
+      → Gives b s budget before (told count state atEnd) buffer
   halted-end h = halted (taking-ended s place (w .left) h)
 
 -- ---- up to a stamp: the phy alone goes from stage to stage, whatever the base
@@ -130,8 +129,8 @@ pub record Going (p : Phy) (s : List ℕ) (place count budget : ℕ) (before : L
   pub same : length buffer ≡ length before
   pub stage :
       (b : Bay) (lent : List ℕ) (base baseSet : ℕ)
-      → Stage b s budget lent (record { phy = p; base = base; baseSet = baseSet }) place count before
-      → Stage b s budget lent (record { phy = state; base = base; baseSet = baseSet }) at n buffer
+      → Stage b s budget lent (clocked p base baseSet) place count before
+      → Stage b s budget lent (clocked state base baseSet) at n buffer
 
 pub going-start : {p : Phy} {s : List ℕ} {place count budget : ℕ} {before : List ℕ} → ReadyOn p count budget before → Going p s place count budget before p place count before
 going-start r = record { valid = r .valid; far = omega arith; within = r .within; same = refl; stage = λ _ _ _ _ w. w }
@@ -164,15 +163,15 @@ module _ {p : Phy} {s : List ℕ} {place count budget : ℕ} {before : List ℕ}
           far = omega (arith, g .far);
           within = omega arith;
           same = length-set buffer n byte ∙ g .same;
-          stage = λ b lent base baseSet w. let v = g .stage b lent base baseSet w in stage-on v h r (steps (record { phy = state; base = base; baseSet = baseSet }) (v .valid) refl) y;
+          stage = λ b lent base baseSet w. let v = g .stage b lent base baseSet w in stage-on v h r (steps (clocked state base baseSet) (v .valid) refl) y;
         }
 
   -- ---- what comes behind such events
 
   goes : {behind : Behind} (r : Gone) → r ≡ record { phy = state; count = n; behind = behind }
       → ((b : Bay) (lent : List ℕ) (base baseSet : ℕ)
-      → Stage b s budget lent (record { phy = state; base = base; baseSet = baseSet }) at n buffer
-      → Comes b s budget lent (record { phy = state; base = base; baseSet = baseSet }) n buffer behind)
+      → Stage b s budget lent (clocked state base baseSet) at n buffer
+      → Comes b s budget lent (clocked state base baseSet) n buffer behind)
       → GoesOn p s place count budget before r buffer
   goes r q f =
       subst (λ (x : Gone). GoesOn p s place count budget before x buffer) (sym q)
@@ -204,7 +203,7 @@ module _
     (w : Stage b s budget before state place count buffer) (y : GoesOn (state .phy) s place count budget buffer r now) where
   -- the bay at that place: its base is kept
   abbrev held : Bay
-  held = record { phy = r .phy; base = state .base; baseSet = state .baseSet }
+  held = clocked (r .phy) (state .base) (state .baseSet)
 
   behind-is : {behind : Behind} → r .behind ≡ behind → Comes b s budget before held (r .count) now behind
   behind-is q = subst (Comes b s budget before held (r .count) now) q (y .comes b before (state .base) (state .baseSet) w)

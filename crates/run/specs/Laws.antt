@@ -1,7 +1,7 @@
 -- What is promised of a run beyond its contract. A heading names the files of proofs/.
 use Prim.Native.Nat.{ℕ, _+_, _≤_, _<_}
 use mathlib.Core.Bool.{true, false}
-use mathlib.Core.List.{List, [], _∷_, _++_}
+use mathlib.Core.List.{List, [], _∷_, _++_, map}
 use mathlib.Core.Logic.{_↔_}
 use mathlib.Core.Path.{_≡_}
 use lib.ListN.{length, take, drop}
@@ -163,8 +163,7 @@ answersIn (b ∷ bs) = pick (isAnswer b) (b ∷ answersIn bs) (answersIn bs)
 
 -- the codes of answers
 abbrev pub codesOf : List Answer → List ℕ
-codesOf [] = []
-codesOf (a ∷ others) = a .code ∷ codesOf others
+codesOf answers = map (λ a. a .code) answers
 
 -- the bytes that are answers are the answers of the log of the same events
 abbrev pub AnswersInOrder : Type 0

@@ -1,4 +1,4 @@
 pub mod Running
-pub mod Stages
 pub mod Contracts
+pub mod Stages
 pub mod Laws

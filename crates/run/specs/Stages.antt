@@ -6,7 +6,6 @@ use mathlib.Core.List.{List}
 use mathlib.Core.Path.{_≡_}
 use lib.ListN.{length}
 use lib.Seq.{sets}
-use Rattle.table.specs.Results.{Leaves}
 use Rattle.event.specs.Table.{stampOf}
 use Rattle.trace.specs.Reading as reading
 use Rattle.trace.specs.Reading.{readEvent}
@@ -16,6 +15,7 @@ use Rattle.bay.specs.State.{validOf}
 use Rattle.bay.specs.Log.{after}
 use Rattle.bay.specs.declared.Bay.{Bay}
 use Rattle.run.specs.Running.{taking, bytesOf, told, toldOf, tellsStop}
+use Rattle.run.specs.Contracts.{Gives}
 use Rattle.run.specs.declared.Behind.{Behind}
 use Rattle.run.specs.declared.Behind.the-variants.{Stamp, Stop as Behind·Stop}
 use Rattle.run.specs.declared.Gone.{Gone}
@@ -37,6 +37,10 @@ pub record Stage
     pub bytes :
         sets before 0 (bytesOf b (taking budget s 0 .events))
         ≡ sets buffer count (bytesOf state (taking left s place .events))
+
+-- a phy with a clock
+abbrev pub clocked : Phy → (base baseSet : ℕ) → Bay
+clocked p base baseSet = record { phy = p; base = base; baseSet = baseSet }
 
 -- what `to_stamp` asks: the phy is valid, and the buffer has room for the budget, which is not exceeded
 pub record ReadyOn (p : Phy) (count budget : ℕ) (buffer : List ℕ) : Type 0 where
@@ -60,8 +64,7 @@ abbrev pub Comes :
 Comes b s budget before state count after (Stamp counter next) =
     Stamped b s budget before state count after counter next
 Comes b s budget before state count after (Behind·Stop stop) =
-    Leaves (told count state (tellsStop stop)) (toldOf b (taking budget s 0)) after
-    (sets before 0 (bytesOf b (taking budget s 0 .events)))
+    Gives b s budget before (told count state (tellsStop stop)) after
 
 -- `to_stamp` of a phy at a place, with the buffer `before`, which it leaves as `after`: of whatever run this is a stage
 pub record GoesOn (p : Phy) (s : List ℕ) (place count budget : ℕ) (before : List ℕ) (r : Gone) (after : List ℕ)
@@ -72,5 +75,5 @@ pub record GoesOn (p : Phy) (s : List ℕ) (place count budget : ℕ) (before : 
     pub same : length after ≡ length before
     pub comes :
         (b : Bay) (lent : List ℕ) (base baseSet : ℕ)
-        → Stage b s budget lent (record { phy = p; base = base; baseSet = baseSet }) place count before
-        → Comes b s budget lent (record { phy = r .phy; base = base; baseSet = baseSet }) (r .count) after (r .behind)
+        → Stage b s budget lent (clocked p base baseSet) place count before
+        → Comes b s budget lent (clocked (r .phy) base baseSet) (r .count) after (r .behind)
