@@ -87,6 +87,13 @@ pub struct Event {
     pub sixth: u64,
 }
 
+// An event on a shelf: the number of the phy that it is for, and the event.
+#[repr(C)]
+pub struct ShelfEvent {
+    pub number: u64,
+    pub event: Event,
+}
+
 // An argument's range, both ends included.
 pub struct Range {
     pub least: u64,

@@ -40,3 +40,11 @@ tooLarge = 9
 -- the lent buffer is too short
 abbrev pub noRoom : ℕ
 noRoom = 10
+
+-- an Open to the port, and 32 wait already
+abbrev pub queueFull : ℕ
+queueFull = 11
+
+-- a number that is neither the port's nor below the count of phys
+abbrev pub noSuchPhy : ℕ
+noSuchPhy = 12

@@ -22,6 +22,10 @@ pub const TOO_LARGE: u64 = 9;
 
 pub const NO_ROOM: u64 = 10;
 
+pub const QUEUE_FULL: u64 = 11;
+
+pub const NO_SUCH_PHY: u64 = 12;
+
 // A flag; any other number is none.
 pub const OFF: u64 = 0;
 
