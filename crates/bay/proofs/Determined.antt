@@ -8,6 +8,7 @@ determined =
       fresh = by-equation _;
       valid = λ b. by-equation _;
       stamped = λ b counter. by-equation _;
+      moved = λ b e. by-equation _;
       step = λ b e. by-equation _;
       last-notice = λ stepped. by-equation _;
     }

@@ -5,7 +5,7 @@ use mathlib.Core.Path.{_≡_}
 use Rattle.event.specs.Table.{stampOf}
 use Rattle.event.specs.declared.Event.{Event}
 use Rattle.bay.specs.State.{validOf, freshBay}
-use Rattle.bay.specs.Step.{lastNotice, stepOf}
+use Rattle.bay.specs.Step.{lastNotice, stepOf, moveOf}
 use Rattle.bay.specs.declared.Bay.{Bay}
 use Rattle.bay.specs.declared.Stepped.{Stepped}
 
@@ -20,6 +20,10 @@ TellsValid b r = r ≡ validOf b
 -- `step` of any bay and any event
 abbrev pub Steps : Bay → Event → Stepped → Type 0
 Steps b e r = r ≡ stepOf b e
+
+-- `moved`, the total move under a step
+abbrev pub Moves : Bay → Event → Stepped → Type 0
+Moves b e r = r ≡ moveOf b e
 
 -- `stamped` of any bay and any counter
 abbrev pub TakesStamp : Bay → ℕ → Stepped → Type 0

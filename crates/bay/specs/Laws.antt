@@ -3,7 +3,7 @@
 use Prim.Native.Nat.{ℕ}
 use Rattle.table.specs.Results.{Determines}
 use Rattle.event.specs.declared.Event.{Event}
-use Rattle.bay.specs.Contracts.{StartsFresh, TellsValid, TakesStamp, Steps, GivesLast}
+use Rattle.bay.specs.Contracts.{StartsFresh, TellsValid, TakesStamp, Moves, Steps, GivesLast}
 use Rattle.bay.specs.declared.Bay.{Bay}
 use Rattle.bay.specs.declared.Stepped.{Stepped}
 
@@ -12,5 +12,6 @@ pub record Determined : Type 0 where
   pub fresh : Determines StartsFresh
   pub valid : (b : Bay) → Determines (TellsValid b)
   pub stamped : (b : Bay) (counter : ℕ) → Determines (TakesStamp b counter)
+  pub moved : (b : Bay) (e : Event) → Determines (Moves b e)
   pub step : (b : Bay) (e : Event) → Determines (Steps b e)
   pub last-notice : (stepped : Stepped) → Determines (GivesLast stepped)

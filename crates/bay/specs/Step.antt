@@ -7,7 +7,7 @@ use Rattle.table.specs.Choice.{pick}
 use Rattle.table.specs.Flags.{on, isOn}
 use Rattle.table.specs.Refusals.{badState}
 use Rattle.event.specs.Names.{timeStamp, mostCounter}
-use Rattle.event.specs.Table.{knownInTrace}
+use Rattle.event.specs.Table.{knownInTrace, stampOf}
 use Rattle.event.specs.declared.Event.{Event}
 use Rattle.phy.specs.Shapes.{noOpen}
 use Rattle.phy.specs.Step as phy
@@ -95,3 +95,7 @@ isStamp e = eqb (e .code) timeStamp && knownInTrace e
 unfoldable pub stepOf : Bay → Event → Stepped
 stepOf b e =
     pick (validOf b) (pick (isStamp e) (onStamp b (e .first)) (atOnce b (phy.stepOf (b .phy) e))) (refused b badState)
+
+-- what a known event does to a valid bay, without a judgement; a stamp is judged all the same
+unfoldable pub moveOf : Bay → Event → Stepped
+moveOf b e = pick (eqb (e .code) timeStamp) (stepOf b (stampOf (e .first))) (atOnce b (phy.moveOf (b .phy) e))

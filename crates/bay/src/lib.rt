@@ -5,7 +5,7 @@ mod reports;
 mod state;
 mod wait;
 
-ghost use Rattle.bay.specs.Contracts.{TakesStamp, Steps};
+ghost use Rattle.bay.specs.Contracts.{TakesStamp, Moves, Steps};
 use event::Event;
 use event::MOST_COUNTER;
 use event::Open;
@@ -60,6 +60,16 @@ pub fn stamped(bay: Bay, counter: u64) -> Stepped
         return reports::refused(bay, table::BAD_EVENT);
     }
     reports::refused(bay, table::BAD_STATE)
+}
+
+// The move of an event, for whoever knows that the bay is valid and the event may stand in a trace.
+pub fn moved(bay: Bay, event: Event) -> Stepped
+    ensures { λ r. ⌜ Moves bay event r ⌝ }
+{
+    if event.code == TIME_STAMP {
+        return stamped(bay, event.first);
+    }
+    reports::at_once(bay, phy::moved(bay.phy, event))
 }
 
 // Any bay and any event: what is no time stamp, or a wrong one, the phy judges.

@@ -16,11 +16,11 @@ use Rattle.phy.specs.Step as phyStep
 use Rattle.phy_laws.specs.Laws as phyLaws
 use Rattle.phy_laws.proofs.Refusals as phyRefusals
 use Rattle.bay.specs.State.{validOf}
-use Rattle.bay.specs.Step.{atOnce, refused, onStamp, isStamp, stepOf}
+use Rattle.bay.specs.Step.{atOnce, refused, onStamp, isStamp, stepOf, moveOf}
 use Rattle.bay.specs.declared.Bay.{Bay}
-use Rattle.bay.proofs.Steps.{phy-valid}
-use Rattle.bay_laws.specs.Laws.{Judged, BadStateExactly, BadEventExactly, BusyExactly, NothingPendingExactly, NotConnectedExactly, WrongProtocolExactly, NotRefusedExactly, RefusedKeeps}
-use Rattle.bay_laws.proofs.Steps.{by-way}
+use Rattle.bay.proofs.Steps.{phy-valid, as-stamp}
+use Rattle.bay_laws.specs.Laws.{Judged, StepIsMove, BadStateExactly, BadEventExactly, BusyExactly, NothingPendingExactly, NotConnectedExactly, WrongProtocolExactly, NotRefusedExactly, RefusedKeeps}
+use Rattle.bay_laws.proofs.Steps.{by-way, others-are-phys}
 
 pub refused-keeps : RefusedKeeps
 unfolding onStamp
@@ -59,6 +59,13 @@ module _ (b : Bay) (e : Event) where
       (λ f. (λ q. absurd (s (sym q)), λ r. absurd (false≢true (sym f ∙ judged r .valid))))
       (λ _ t. (λ q. absurd (z (sym q)), λ r. absurd (other r (stamp-code t))))
       (λ v n. (λ q. back v (law .0 q), λ r. law .1 (forth n r)))
+
+pub step-is-move : StepIsMove
+unfolding moveOf
+step-is-move b e j =
+    by-test (eqb (e .code) timeStamp)
+    (λ t. rw t (sym (as-stamp b e (rw (t, j .known) refl))))
+    (λ f. rw f (others-are-phys b e (j .valid) (rw f refl) ∙ ap (atOnce b) (phyRefusals.step-is-move (b .phy) e (to-phy b e (rw f refl) j))))
 
 pub bad-state-exactly : BadStateExactly
 unfolding onStamp

@@ -14,7 +14,7 @@ use Rattle.phy.specs.Step as phy
 use Rattle.phy_laws.specs.Laws.{Free}
 use Rattle.bay.specs.State.{validOf, freshBay}
 use Rattle.bay.specs.Gap.{gapOf}
-use Rattle.bay.specs.Step.{noReport, atOnce, passed, refused, isStamp, stepOf}
+use Rattle.bay.specs.Step.{noReport, atOnce, passed, refused, isStamp, stepOf, moveOf}
 use Rattle.bay.specs.declared.Bay.{Bay}
 use Rattle.bay.specs.declared.Stepped.{Stepped}
 
@@ -80,6 +80,10 @@ RefusedKeeps = (b : Bay) (e : Event) → (stepOf b e .refusal ≡ 0 → ⊥) →
 pub record Judged (b : Bay) (e : Event) : Type 0 where
   pub valid : validOf b ≡ true
   pub known : knownInTrace e ≡ true
+
+-- such a step is the event's move alone
+abbrev pub StepIsMove : Type 0
+StepIsMove = (b : Bay) (e : Event) → Judged b e → stepOf b e ≡ moveOf b e
 
 -- 1: the bay is not valid
 abbrev pub BadStateExactly : Type 0

@@ -26,6 +26,7 @@ use event::TX_OPEN;
 pub use names::BEND;
 pub use names::L0;
 pub use names::L3;
+pub use names::P1;
 pub use names::P2;
 pub use shapes::NO_OPEN;
 pub use shapes::fresh;
