@@ -1,0 +1,4 @@
+pub mod Held
+pub mod Loops
+pub mod Places
+pub mod Determined
