@@ -13,7 +13,9 @@ enum refusal {
     /* Given no longer, since numbers may be padded; its number stays taken. */
     REFUSED_OVERLONG = 8,
     REFUSED_TOO_LARGE = 9,
-    REFUSED_NO_ROOM = 10
+    REFUSED_NO_ROOM = 10,
+    REFUSED_QUEUE_FULL = 11,
+    REFUSED_NO_SUCH_PHY = 12
 };
 
 #endif

@@ -69,7 +69,7 @@ struct event_read event_read(const uint8_t *bytes, size_t length, size_t place)
 
 /* ---- Writing ---- */
 
-static size_t event_length(const struct phy_event *event)
+size_t event_length(const struct phy_event *event)
 {
     size_t length = number_length(event->code);
 

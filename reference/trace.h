@@ -25,6 +25,9 @@ struct event_written {
 
 struct event_read event_read(const uint8_t *bytes, size_t length, size_t place);
 
+/* Of a valid event, in the shortest form. */
+size_t event_length(const struct phy_event *event);
+
 struct event_written event_write(const struct phy_event *event, uint8_t *buffer, size_t length, size_t place);
 
 #endif

@@ -17,7 +17,11 @@ enum case_kind {
     KIND_TRACE = 8,
     KIND_RUNS = 9,
     KIND_LISTING = 10,
-    KIND_BAY_WALK = 11
+    KIND_BAY_WALK = 11,
+    KIND_READ_SHELF_EVENT = 12,
+    KIND_WRITE_SHELF_EVENT = 13,
+    KIND_PORT_WALK = 14,
+    KIND_SHELF_RUNS = 15
 };
 
 /* The two files stay in step: whoever writes a case also writes the lines expected of it. */

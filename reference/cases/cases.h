@@ -30,6 +30,13 @@ void make_stamped_listing_cases(struct case_file *file);
 void make_bay_cases(struct case_file *file);
 void make_refused_bay_cases(struct case_file *file);
 
+/* Of a shelf: its events, its port and its runs. */
+void make_read_shelf_event_cases(struct case_file *file);
+void make_write_shelf_event_cases(struct case_file *file);
+void make_port_cases(struct case_file *file);
+void make_refused_port_cases(struct case_file *file);
+void make_shelf_run_cases(struct case_file *file);
+
 /* One trace, as it is; the program that takes it is the lister. */
 void make_lister_case(struct case_file *file);
 

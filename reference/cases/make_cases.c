@@ -21,7 +21,11 @@ enum case_seed {
     SEED_STAMPED_TRACE = 14014,
     SEED_STAMPED_RUN = 15015,
     SEED_STAMPED_LISTING = 16016,
-    SEED_BAY = 17017
+    SEED_BAY = 17017,
+    SEED_READ_SHELF_EVENT = 18018,
+    SEED_WRITE_SHELF_EVENT = 19019,
+    SEED_PORT = 20020,
+    SEED_SHELF_RUN = 21021
 };
 
 static bool open_cases(struct case_file *file, const char *folder, const char *program)
@@ -106,6 +110,25 @@ static bool make_trace_cases(const char *folder, const char *traces)
     return close_cases(&file) && full && named;
 }
 
+static bool make_shelf_cases(const char *folder)
+{
+    struct case_file file;
+
+    if (!open_cases(&file, folder, "shelf_cases")) {
+        return false;
+    }
+    file.random = SEED_READ_SHELF_EVENT;
+    make_read_shelf_event_cases(&file);
+    file.random = SEED_WRITE_SHELF_EVENT;
+    make_write_shelf_event_cases(&file);
+    file.random = SEED_PORT;
+    make_port_cases(&file);
+    make_refused_port_cases(&file);
+    file.random = SEED_SHELF_RUN;
+    make_shelf_run_cases(&file);
+    return close_cases(&file);
+}
+
 static bool make_lister_trace(const char *folder)
 {
     struct case_file file;
@@ -127,7 +150,8 @@ int main(int argc, char **argv)
 
     bool machines = make_machine_cases(argv[1]);
     bool traces = make_trace_cases(argv[1], argv[2]);
+    bool shelf = make_shelf_cases(argv[1]);
     bool lister = make_lister_trace(argv[1]);
 
-    return machines && traces && lister ? EXIT_SUCCESS : EXIT_FAILURE;
+    return machines && traces && shelf && lister ? EXIT_SUCCESS : EXIT_FAILURE;
 }
