@@ -1,7 +1,7 @@
 -- The invariants of the loops: what is left to do, started from here, gives the whole answer.
 use Prim.Native.Nat.{ℕ, suc, _+_, _-_, _*_, _≤_, _<_}
 use mathlib.Core.Bool.{true, false}
-use mathlib.Core.List.{List, _++_}
+use mathlib.Core.List.{List}
 use mathlib.Core.Path.{_≡_, refl, sym, ap, _∙_}
 use native.Mathlib.Nat.{zero-add}
 use native.Mathlib.Numerals.{add-one}
@@ -10,7 +10,7 @@ use borrow.Author.Tests.{eq-eqb, ne-eqb}
 use lib.ListN.{length, take, drop, getD, set, length-set, length-drop, drop-of-length-le}
 use lib.Seq.{drop-cons, drop-drop, drop-at, getD-drop, length-take-le, paste-suc}
 use Rattle.event.specs.Table.{openKnown}
-use Rattle.queue.specs.Lent.{mostWaiting, numbersEach, openFrom, heldIn, queueIn, allZero}
+use Rattle.queue.specs.Lent.{mostWaiting, numbersEach, openFrom, heldIn, queueIn, allZero, movedUp}
 
 -- ---- numbers that are all zero
 
@@ -71,9 +71,6 @@ module _ {ns : List ℕ} {waiting at : ℕ} (c : Counting ns waiting at) where
       omega (arith, rw none at (c .whole))
 
 -- ---- moving up: so many numbers have moved, and behind them stands what stood there
-
-abbrev pub movedUp : (before : List ℕ) (count : ℕ) → List ℕ
-movedUp before count = take count (drop numbersEach before) ++ drop count before
 
 module _ (before : List ℕ) (i : ℕ) (h : i + numbersEach < length before) where
   abbrev ahead : List ℕ

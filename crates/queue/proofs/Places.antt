@@ -1,8 +1,8 @@
 -- Reads and stores at the place of an Open: they are the definitions' own, with the place counted from the queue's start.
-use Prim.Native.Nat.{ℕ, _+_, _*_, _-_, _≤_, _<_}
+use Prim.Native.Nat.{ℕ, _+_, _≤_, _<_}
 use mathlib.Core.Bool.{true, _&&_}
 use mathlib.Core.List.{List, _++_}
-use mathlib.Core.Path.{_≡_, refl, sym, ap, _∙_}
+use mathlib.Core.Path.{_≡_, _∙_}
 use native.Mathlib.Nat.{add-zero}
 use native.Mathlib.Omega.{arith}
 use borrow.Author.Tests.{ltb-true, leb-true, eqb-true}
@@ -10,8 +10,7 @@ use lib.Dec.{eqb, leb, ltb}
 use lib.ListN.{length, take, drop, getD, replicate, length-append, length-drop}
 use lib.Seq.{sets, sets-eq, take-at, drop-at, drop-drop, getD-drop, length-take-le}
 use Rattle.table.proofs.Laws.{parts}
-use Rattle.queue.specs.Lent.{mostWaiting, numbersEach, lentLength, openFrom}
-use Rattle.queue.proofs.Loops.{movedUp}
+use Rattle.queue.specs.Lent.{mostWaiting, numbersEach, lentLength, openFrom, movedUp}
 
 pub open-drop : (ns : List ℕ) (at : ℕ)
     → record {

@@ -1,10 +1,10 @@
 -- What each function promises, cited by its `ensures` and, of the public ones, by `Determined` in Laws.
 use Prim.Native.Nat.{ℕ}
-use mathlib.Core.List.{List, _++_}
+use mathlib.Core.List.{List}
 use mathlib.Core.Path.{_≡_}
-use lib.ListN.{length, take, drop}
+use lib.ListN.{length}
 use Rattle.event.specs.declared.Open.{Open}
-use Rattle.queue.specs.Lent.{numbersEach, openFrom, queueIn, goodLent, joined, advanced}
+use Rattle.queue.specs.Lent.{openFrom, queueIn, goodLent, joined, advanced}
 use Rattle.queue.specs.declared.Judgement.{Judgement}
 
 -- `judged` of numbers

@@ -77,6 +77,10 @@ unfoldable pub joined : List ℕ → (waiting : ℕ) → Open → List ℕ
 joined ns waiting o =
     pick (ltb waiting mostWaiting && eqb (length ns) lentLength) (sets ns (numbersEach * waiting) (numbersOf o)) ns
 
+-- so many numbers have moved up by one Open, and behind them stands what stood there
+abbrev pub movedUp : List ℕ → (count : ℕ) → List ℕ
+movedUp ns count = take count (drop numbersEach ns) ++ drop count ns
+
 -- the oldest of those that wait is gone and the others move up, where there is one
 unfoldable pub advanced : List ℕ → (waiting : ℕ) → List ℕ
 advanced ns waiting =

@@ -1,11 +1,10 @@
 // The Opens that wait at a port, oldest first, lent as numbers: six for each Open in use, in the order of
 // its fields, and behind them zeros.
 ghost use Prim.Native.Nat.{_+_, _≤_};
-ghost use mathlib.Core.List.{_++_};
 ghost use mathlib.Core.Path.{_≡_};
-ghost use lib.ListN.{length, getD, take, drop};
+ghost use lib.ListN.{length, getD, drop};
 ghost use lib.Seq.{sets};
-ghost use Rattle.queue.specs.Lent.{numbersEach, lentLength, numbersOf, openFrom, queueIn, allZero};
+ghost use Rattle.queue.specs.Lent.{numbersEach, lentLength, numbersOf, openFrom, queueIn, allZero, movedUp};
 ghost use Rattle.queue.specs.Contracts.{Judges, GivesOldest, Joins, Advances};
 use event::Open;
 
@@ -128,7 +127,7 @@ pub fn join(queue: &mut [u64], waiting: u64, open: Open)
 // Moves so many numbers up by one Open.
 fn move_up(queue: &mut [u64], count: usize)
     requires { ⌜ count + numbersEach ≤ length (now queue) ⌝ }
-    ensures { λ r. ⌜ now (queue .exit) ≡ take count (drop numbersEach (now (queue .entry))) ++ drop count (now (queue .entry)) ⌝ }
+    ensures { λ r. ⌜ now (queue .exit) ≡ movedUp (now (queue .entry)) count ⌝ }
 {
     let mut i = 0;
     while i < count {

@@ -1,7 +1,6 @@
 -- `queue::move_up` meets its contract: each turn moves one number, which stands where it stood.
 use Prim.Native.Nat.{_-_}
 use native.Mathlib.Omega.{arith}
-use lib.ListN.{length-set}
 use Rattle.queue.proofs.Loops.{Moving, moving-start, moving-on, moving-done}
 use Rattle.queue.proofs.move_up.Statement.{statement}
 use Rattle.queue.proofs.move_up.Tie as tie
