@@ -2,14 +2,15 @@
 -- come behind them.
 use Prim.Native.Nat.{ℕ, suc, _+_, _-_, _*_, _<_}
 use mathlib.Core.List.{List, [], _∷_, _++_, append-assoc}
-use mathlib.Core.Path.{_≡_, refl, sym, ap, _∙_}
+use mathlib.Core.Path.{_≡_, refl, ap, _∙_}
 use native.Mathlib.Omega.{arith}
 use borrow.Author.Tests.{lt-ltb, le-leb, eq-eqb}
-use lib.ListN.{length, drop, replicate, length-append, replicate-append-replicate}
-use lib.Seq.{sets, sets-eq, take-at, drop-at, drop-drop}
+use lib.ListN.{length, replicate, length-append, replicate-append-replicate}
+use lib.Seq.{take-at, drop-at, drop-drop}
 use Rattle.event.specs.declared.Open.{Open}
 use Rattle.queue.specs.Lent.{mostWaiting, numbersEach, lentLength, numbersOf, inNumbers, lentAs, openFrom, joined, advanced}
 use Rattle.queue.specs.Laws.{JoinsLast, OldestFirst, MovesUp}
+use Rattle.queue.proofs.Places.{stored-over}
 use Rattle.queue.proofs.Lending.{numbers-long, lent-long}
 
 numbers-append : (os ps : List Open) → inNumbers (os ++ ps) ≡ inNumbers os ++ inNumbers ps
@@ -22,15 +23,6 @@ unfolding lentAs
 with-zeros os n h =
     let left : lentLength - length (inNumbers os) ≡ n = omega arith in
     rw left
-
--- a run that is stored over one as long
-stored-over : (first run old rest : List ℕ) (at : ℕ) → length first ≡ at → length old ≡ length run
-    → sets (first ++ (old ++ rest)) at run ≡ first ++ run ++ rest
-stored-over first run old rest at h k =
-    let all : List ℕ = first ++ (old ++ rest) in
-    let behind : drop (at + length run) all ≡ rest =
-    sym (drop-drop (length run) at all) ∙ ap (drop (length run)) (drop-at first (old ++ rest) at h) ∙ drop-at old rest (length run) k in
-    sets-eq run all at (rw (length-append, length-append) (omega arith)) ∙ rw (take-at first (old ++ rest) at h, behind)
 
 -- the zeros that one Open more than these stands on, and those behind it
 abbrev room : List ℕ
