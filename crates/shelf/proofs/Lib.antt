@@ -1,0 +1,10 @@
+pub mod First
+pub mod WriteOrder
+pub mod Determined
+pub mod Why
+pub mod Refusals
+pub mod Accepted
+pub mod Written
+pub mod RoundTrip
+pub mod Shortest
+pub mod Padded
