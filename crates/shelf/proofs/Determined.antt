@@ -35,4 +35,5 @@ determined =
       event-at = λ s place. by-telling read-once _;
       place-reached = λ read place. by-equation _;
       write-event = λ e before place. with-lent written-once _ _;
+      next = λ before. with-lent read-once _ _;
     }

@@ -6,5 +6,6 @@ pub mod Refusals
 pub mod Accepted
 pub mod Written
 pub mod RoundTrip
+pub mod Calls
 pub mod Shortest
 pub mod Padded

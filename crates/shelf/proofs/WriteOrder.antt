@@ -50,7 +50,7 @@ sets-before buffer (x ∷ xs) ys at behind e =
 
 pub long : (e : ShelfEvent) → length (shelfBytes e) ≡ length (numberBytes (e .number)) + length (eventBytes (e .event))
 unfolding shelfBytes
-long e = length-append (numberBytes (e .number)) (eventBytes (e .event))
+long e = simp length-append (omega arith)
 
 module _ (e : ShelfEvent) (before : List ℕ) (place : ℕ) where
   pub not-known : knownInTrace (e .event) ≡ false → WritesShelf e before place BadEvent before

@@ -1,10 +1,11 @@
 -- What is promised of events of a shelf trace beyond the contracts. A heading names the files of proofs/.
 use Prim.Native.Nat.{ℕ, _+_, _^_, _≤_, _<_}
 use mathlib.Core.Bool.{true, false}
-use mathlib.Core.List.{List, [], _∷_}
+use mathlib.Core.List.{List, [], _∷_, map}
 use mathlib.Core.Logic.{_↔_, _⊎_}
 use mathlib.Core.Path.{_≡_}
-use lib.ListN.{length, take, drop}
+use lib.ListN.{length, take, drop, replicate}
+use denote.Ref.{RefT, now}
 use Rattle.table.specs.Refusals.{badEvent, cut, tooLarge, noRoom}
 use Rattle.table.specs.Results.{TellsOnce, Determines, DeterminesLent}
 use Rattle.number.specs.Reading.{value, readNumber}
@@ -12,21 +13,24 @@ use Rattle.number.specs.Laws.{Bytes, EndsEarly, TenthTooLarge}
 use Rattle.event.specs.Table.{knownInTrace}
 use Rattle.event.specs.declared.ShelfEvent.{ShelfEvent}
 use Rattle.trace.specs.Writing.{wrote, refused, lengthGiven}
+use Rattle.trace.specs.Contracts.{StartsReader}
 use Rattle.trace.specs.Laws.{Stands, MovesOn, Faulty, OutOfRange, SameNumbers}
+use Rattle.trace.specs.declared.Reader.{Reader}
 use Rattle.shelf.specs.Reading.{ToldShelf, shelfEvent, shelfEnd, shelfRefused, readShelf, zeroShelf, shelfGiven}
 use Rattle.shelf.specs.Reading.{shelfReached, tellsShelf}
 use Rattle.shelf.specs.Writing.{shelfBytes, shelfTraceBytes, writeShelf, shelfAfter}
-use Rattle.shelf.specs.Contracts.{ReadsShelf, ReachesShelf, WritesShelf}
+use Rattle.shelf.specs.Contracts.{ReadsShelf, ReachesShelf, WritesShelf, TakesShelf}
 use Rattle.shelf.specs.declared.ShelfRead.{ShelfRead}
 
 -- ---- results are determined (proofs/Determined)
 
--- each result of the reader says one thing; two that a function may give coincide, as do the buffers that it leaves
+-- each result of the reader says one thing; two that a function may give coincide, as does what it leaves
 pub record Determined : Type 0 where
   pub read-once : TellsOnce tellsShelf
   pub event-at : (s : List ℕ) (place : ℕ) → Determines (ReadsShelf s place)
   pub place-reached : (read : ShelfRead) (place : ℕ) → Determines (ReachesShelf read place)
   pub write-event : (e : ShelfEvent) (before : List ℕ) (place : ℕ) → DeterminesLent (WritesShelf e before place)
+  pub next : (before : Reader) → DeterminesLent (TakesShelf before)
 
 -- ---- one event (proofs/RoundTrip, proofs/Accepted)
 
@@ -177,6 +181,53 @@ ShelfTraceBack = (es : List ShelfEvent) → AllOnShelf es → ShelfReadsAll (she
 abbrev pub ReadsOnce : Type 0
 ReadsOnce =
     (s : List ℕ) (place : ℕ) (es fs : List ShelfEvent) → ShelfReadsAll s place es → ShelfReadsAll s place fs → es ≡ fs
+
+-- ---- calls of a reader (proofs/Calls)
+
+-- a fault is told with the reader's place, its event is zero, and the reader is as it was
+pub record KeptAtFault (before : Reader) (r : ShelfRead) (at : ℕ) (after : Reader) : Type 0 where
+  pub first : at ≡ before .place
+  pub zeros : shelfGiven (tellsShelf r) ≡ zeroShelf
+  pub stays : after ≡ before
+
+-- a call that gives a fault gives a zero event and does not move the reader
+abbrev pub FaultStays : Type 0
+FaultStays =
+    (before : Reader) (r : ShelfRead) (after : Reader) (n at : ℕ)
+    → TakesShelf before r after → tellsShelf r ≡ shelfRefused n at → KeptAtFault before r at after
+
+-- calls of `next`, one after the other, take a reader to another; their results are listed
+pub data ShelfCalls : Reader → List ShelfRead → Reader → Type 0 where
+  uncalled : {reader : Reader} → ShelfCalls reader [] reader
+  called :
+      {before middle after : Reader} {r : ShelfRead} {rs : List ShelfRead}
+      → TakesShelf before r middle → ShelfCalls middle rs after → ShelfCalls before (r ∷ rs) after
+
+-- each later result is the same, its event is zero, and the reader is as it was
+pub record Stopped (before : Reader) (r : ShelfRead) (rs : List ShelfRead) (after : Reader) : Type 0 where
+  pub same : rs ≡ replicate (length rs) r
+  pub zeros : shelfGiven (tellsShelf r) ≡ zeroShelf
+  pub stays : after ≡ before
+
+-- once a call gives no event, no later call gives anything else or moves the reader
+abbrev pub StaysPut : Type 0
+StaysPut =
+    (before after : Reader) (r : ShelfRead) (rs : List ShelfRead) → ShelfCalls before (r ∷ rs) after
+    → ((e : ShelfEvent) (next : ℕ) → tellsShelf r ≡ shelfEvent e next → ⊥) → Stopped before r rs after
+
+-- k results are the first k events of a list that stands at a place, and the others stand from the reader's place on
+pub record FirstGiven
+    (s : List ℕ) (place : ℕ) (es : List ShelfEvent) (last : ℕ) (rs : List ShelfRead) (after : Reader) : Type 0 where
+  pub events : map (λ r. shelfGiven (tellsShelf r)) rs ≡ take (length rs) es
+  pub passed : ShelfPasses s place (take (length rs) es) (after .place)
+  pub others : ShelfPasses s (after .place) (drop (length rs) es) last
+
+-- k calls of a new reader give the first k events of the trace, whatever stands behind these
+abbrev pub FirstEvents : Type 0
+FirstEvents =
+    (trace : RefT (List ℕ)) (start after : Reader) (es : List ShelfEvent) (last : ℕ) (rs : List ShelfRead)
+    → StartsReader trace start → ShelfPasses (now trace) 0 es last → ShelfCalls start rs after
+    → length rs ≤ length es → FirstGiven (now trace) 0 es last rs after
 
 -- ---- the shortest form (proofs/Shortest)
 

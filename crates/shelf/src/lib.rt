@@ -3,11 +3,12 @@
 ghost use mathlib.Core.Path.{_≡_};
 ghost use Prim.Native.Nat.{_+_};
 ghost use lib.Dec.{leb};
-ghost use Rattle.shelf.specs.Contracts.{ReadsShelf, ReachesShelf, WritesShelf};
+ghost use Rattle.shelf.specs.Contracts.{ReadsShelf, ReachesShelf, TakesShelf, WritesShelf};
 use event::ShelfEvent;
 use number::NumberRead;
 use trace::EventRead;
 use trace::EventWritten;
+use trace::Reader;
 
 // What stands at a place: an event on the shelf and the place after it, the end of the trace, or why there is
 // none. A refusal has the place of the phy number's first byte.
@@ -60,6 +61,16 @@ pub fn place_reached(read: ShelfRead, place: usize) -> usize
         ShelfRead::Cut(_) => place,
         ShelfRead::TooLarge(_) => place,
     }
+}
+
+// What stands at the place of a reader of a shelf trace; after an event the reader stands behind it.
+pub fn next<'a>(reader: &mut Reader<'a>) -> ShelfRead
+    ensures { λ r. ⌜ TakesShelf (now (reader .entry)) r (now (reader .exit)) ⌝ }
+{
+    let place = reader.place;
+    let read = event_at(reader.trace, place);
+    reader.place = place_reached(read, place);
+    read
 }
 
 // Whether bytes fit into a buffer of a length from a place on.
