@@ -1,0 +1,10 @@
+pub mod Mask
+pub mod Ways
+pub mod Flags
+pub mod Valid
+pub mod Agrees
+pub mod Surveyed
+pub mod InPlace
+pub mod Kit
+pub mod Put
+pub mod Determined

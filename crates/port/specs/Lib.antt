@@ -1,0 +1,9 @@
+pub mod Names
+pub mod Flags
+pub mod State
+pub mod Step
+pub mod Log
+pub mod Lent
+pub mod Stages
+pub mod Contracts
+pub mod Laws
