@@ -9,5 +9,6 @@ determined =
       write-number = λ v before place. by-equation-lent _ _;
       read-event = λ s place. by-equation _;
       write-event = λ e before place. by-equation-lent _ _;
+      stop-reply = λ stop. by-equation _;
       run = λ p s budget before. by-equation-lent _ _;
     }

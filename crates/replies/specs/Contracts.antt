@@ -10,10 +10,12 @@ use Rattle.trace.specs.Reading.{readEvent}
 use Rattle.trace.specs.Writing as traces
 use Rattle.phy.specs.declared.Phy.{Phy}
 use Rattle.run.specs.Running as runs
-use Rattle.replies.specs.Replies.{numberReply, numberWritten, eventReply, eventWritten, runReply}
+use Rattle.run.specs.declared.Stop.{Stop}
+use Rattle.replies.specs.Replies.{numberReply, numberWritten, eventReply, eventWritten, stopReply, runReply}
 use Rattle.replies.specs.declared.NumberReply.{NumberReply}
 use Rattle.replies.specs.declared.WriteReply.{WriteReply}
 use Rattle.replies.specs.declared.EventReply.{EventReply}
+use Rattle.replies.specs.declared.StopReply.{StopReply}
 use Rattle.replies.specs.declared.RunReply.{RunReply}
 
 -- `read_number` of the slice s at a place
@@ -33,6 +35,10 @@ ReadsEvent s place r = r ≡ eventReply place (readEvent s place)
 abbrev pub WritesEvent : (e : Event) (before : List ℕ) (place : ℕ) → WriteReply → (after : List ℕ) → Type 0
 WritesEvent e before place r after =
     Leaves r (eventWritten (traces.writeEvent e before place)) after (traces.bufferAfter e before place)
+
+-- `stop_reply` of how a run stopped
+abbrev pub TellsStop : Stop → StopReply → Type 0
+TellsStop stop r = r ≡ stopReply (runs.tellsStop stop)
 
 -- `run` of any phy over any trace under a budget, with the buffer `before`, which it leaves as `after`
 abbrev pub Runs : (p : Phy) (s : List ℕ) (budget : ℕ) (before : List ℕ) → RunReply → (after : List ℕ) → Type 0

@@ -5,9 +5,8 @@ ghost use Rattle.number.specs.Reading.{tells as Number·tells};
 ghost use Rattle.number.specs.Writing.{tellsWritten as Number·tellsWritten};
 ghost use Rattle.trace.specs.Reading.{tells as Trace·tells};
 ghost use Rattle.trace.specs.Writing.{tellsWritten as Trace·tellsWritten};
-ghost use Rattle.run.specs.Running.{tellsStop};
-ghost use Rattle.replies.specs.Replies.{noNumber, numberReply, numberWritten, noEvent, eventReply, eventWritten, atNoFault, faultAt, stopReply};
-ghost use Rattle.replies.specs.Contracts.{ReadsNumber, WritesNumber, ReadsEvent, WritesEvent, Runs};
+ghost use Rattle.replies.specs.Replies.{noNumber, numberReply, numberWritten, noEvent, eventReply, eventWritten, atNoFault, faultAt};
+ghost use Rattle.replies.specs.Contracts.{ReadsNumber, WritesNumber, ReadsEvent, WritesEvent, TellsStop, Runs};
 use bay::Bay;
 use event::Event;
 use number::NumberRead;
@@ -212,8 +211,9 @@ fn fault_at(fault: u64, place: usize) -> StopReply
     }
 }
 
-fn stop_reply(stop: Stop) -> StopReply
-    ensures { λ r. ⌜ r ≡ stopReply (tellsStop stop) ⌝ }
+// How a run stopped, in numbers.
+pub fn stop_reply(stop: Stop) -> StopReply
+    ensures { λ r. ⌜ TellsStop stop r ⌝ }
 {
     match stop {
         Stop::End => at_no_fault(STOPPED_AT_END, 0),
