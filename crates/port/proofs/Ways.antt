@@ -290,3 +290,12 @@ module _ (limit : ℕ) (p : Port) (number : ℕ) (e : Event) where
       (λ k. rw (v, k) (may-come (record { valid = v; known = k })))
       (λ k. rw (v, k) (is-refused (not-known v k))))
       (λ v. rw v (is-refused (not-valid v)))
+
+-- each reason has a number
+pub is-some : {limit : ℕ} {p : Port} {number : ℕ} {e : Event} {n : ℕ} → Refuses limit p number e n → n ≡ 0 → ⊥
+is-some (not-valid _) z = omega arith
+is-some (not-known _ _) z = omega arith
+is-some (not-for-port _ _ _) z = omega arith
+is-some (no-phy _ _ _) z = omega arith
+is-some (is-full _ _ _ _) z = omega arith
+is-some (phys-own _ _ _ n) z = n z

@@ -1,0 +1,10 @@
+pub mod Steps
+pub mod Refusals
+pub mod Stamps
+pub mod NoneBeside
+pub mod InOrder
+pub mod Logs
+pub mod OneEntry
+pub mod EachPhy
+pub mod InTime
+pub mod Shelf

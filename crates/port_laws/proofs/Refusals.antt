@@ -1,0 +1,251 @@
+-- Each refusal exactly when: the tests of a step, one behind the other, leave six places, and each has its own number; to a phy that is there it is the phy's own.
+use Prim.Native.Nat.{ℕ, _≤_, _<_}
+use mathlib.Core.Bool.{true, false, _||_, not, and-false, false≢true}
+use mathlib.Core.List.{List, [], _∷_}
+use mathlib.Core.Logic.{_↔_, _⊎_, inl, inr, ⊎-elim}
+use mathlib.Core.Path.{_≡_, refl, sym, ap, subst, _∙_}
+use native.Mathlib.Omega.{arith}
+use borrow.Author.Tests.{eqb-true, eqb-false, eq-eqb, ne-eqb, ltb-true, ltb-false, lt-ltb, le-ltb}
+use lib.Dec.{eqb, ltb}
+use lib.ListN.{length}
+use Rattle.table.specs.Choice.{Row, _⇒_, rows}
+use Rattle.table.specs.Refusals.{badState, badEvent, busy, nothingPending, notConnected, wrongProtocol, queueFull, noSuchPhy}
+use Rattle.table.proofs.Laws.{by-test, by-pick, parts}
+use Rattle.event.specs.Names.{txOpen}
+use Rattle.event.specs.Table.{knownInTrace}
+use Rattle.event.specs.declared.Event.{Event}
+use Rattle.phy_laws.specs.Laws.{Free}
+use Rattle.phy_laws.proofs.Steps.{reports-are-listed}
+use Rattle.bay.specs.Step as bay
+use Rattle.bay.specs.declared.Bay.{Bay}
+use Rattle.bay.proofs.Steps.{not-known}
+use Rattle.bay_laws.specs.Laws as bayLaws
+use Rattle.bay_laws.proofs.Steps as bays
+use Rattle.bay_laws.proofs.Refusals as bayRefusals
+use Rattle.queue.specs.Lent.{mostWaiting}
+use Rattle.port.specs.Names.{thePort}
+use Rattle.port.specs.State.{Port, validOf}
+use Rattle.port.specs.Step.{PortStepped, refused, reportsOf, bayAt, isPorts, mayCome, toPort, toPhy, portStepOf}
+use Rattle.port.specs.declared.Reports.{Reports}
+use Rattle.port.proofs.Valid.{sound, bay-valid}
+use Rattle.port_laws.specs.Laws.{refusalOf, Judged, AtPort, AtPhy, phyAt, BadStateExactly, BadEventExactly, NoSuchPhyExactly, QueueFullExactly, PhysOwn, BusyExactly, NothingPendingExactly, NotConnectedExactly, WrongProtocolExactly, NotRefusedExactly, BadStateFirst, UnknownFirst, OnlyOpens, ReportsArePhys}
+
+-- ---- which refusal comes first
+
+pub bad-state-first : BadStateFirst
+unfolding portStepOf
+bad-state-first limit p number e f = rw f
+
+pub unknown-first : UnknownFirst
+unfolding portStepOf
+unknown-first limit p number e v k = rw (v, k)
+
+pub only-opens : OnlyOpens
+unfolding portStepOf
+only-opens limit p e v n = simp (v, ne-eqb (e .code) txOpen n, and-false)
+
+-- ---- what a phy reports
+
+pub reports-are-phys : ReportsArePhys
+unfolding portStepOf toPhy
+reports-are-phys limit p number e v n l =
+    let b = bayAt (p .bays) number in
+    let r = bay.stepOf b e in
+    by-test (knownInTrace e)
+    (λ k. rw (v, k, ne-eqb number thePort n, lt-ltb number (length (p .bays)) l)
+    (by-pick (λ (s : PortStepped). s .reports ≡ reportsOf r) (eqb (r .refusal) 0) (λ _. refl)
+    (λ f. sym (ap reportsOf (bayRefusals.refused-keeps b e (eqb-false (r .refusal) 0 f))))))
+    (λ k. ap (λ (s : PortStepped). s .reports) (unknown-first limit p number e v k) ∙ sym (ap reportsOf (not-known b e (bay-valid limit p v number l) k)))
+
+-- ---- six places
+
+-- a bay that is valid refuses a known event with 3 to 6, or not at all
+phys-numbers : (b : Bay) (e : Event) → bayLaws.Judged b e → (bay.stepOf b e .refusal ≡ 0) ⊎ ((busy ≤ bay.stepOf b e .refusal) × (bay.stepOf b e .refusal ≤ wrongProtocol))
+unfolding bay.onStamp
+phys-numbers b e j =
+    let n = bay.stepOf b e .refusal in
+    let state : n ≡ badState → ⊥ = λ q. false≢true (sym (bayRefusals.bad-state-exactly b e .0 q) ∙ j .valid) in
+    let event : n ≡ badEvent → ⊥ = λ q. false≢true (sym (bayRefusals.bad-event-exactly b e .0 q .1) ∙ j .known) in
+    let most : n ≤ wrongProtocol = bays.by-way (λ r. r .refusal ≤ wrongProtocol) b e (λ _. omega arith) (λ _ _. omega arith) (λ _ _. reports-are-listed (b .phy) e .refusal) in
+    by-test (eqb n 0) (λ t. inl (eqb-true n 0 t)) (λ f. inr (omega (arith, eqb-false n 0 f), most))
+
+module _ (limit : ℕ) (p : Port) (number : ℕ) (e : Event) where
+  -- what each number says
+  abbrev numberRows : List (Row (Type 0))
+  numberRows =
+      (0 ⇒ ((AtPort limit p number e × (length (p .queue) < mostWaiting)) ⊎ (AtPhy limit p number e × Free (phyAt p number) e)))
+      ∷ (badState ⇒ (validOf limit p ≡ false))
+      ∷ (badEvent ⇒ ((validOf limit p ≡ true) × ((knownInTrace e ≡ false) ⊎ ((number ≡ thePort) × (e .code ≡ txOpen → ⊥)))))
+      ∷ (queueFull ⇒ (AtPort limit p number e × (length (p .queue) ≡ mostWaiting)))
+      ∷ (noSuchPhy ⇒ (Judged limit p e × (number ≡ thePort → ⊥) × (length (p .bays) ≤ number)))
+      ∷ []
+
+  abbrev Says : ℕ → Type 0
+  Says n = rows n numberRows (AtPhy limit p number e)
+
+  abbrev Told : PortStepped → Type 0
+  Told r = Says (r .reports .refusal)
+
+  -- the numbers of a phy are none of these
+  phys-say : (n : ℕ) → busy ≤ n → n ≤ wrongProtocol → Says n ≡ AtPhy limit p number e
+  phys-say n l m =
+      simp (ne-eqb n 0 (λ q. omega arith), ne-eqb n badState (λ q. omega arith), ne-eqb n badEvent (λ q. omega arith), ne-eqb n queueFull (λ q. omega arith), ne-eqb n noSuchPhy (λ q. omega arith))
+
+  -- to a phy that is there, the refusal is its bay's
+  pub own : AtPhy limit p number e → refusalOf limit p number e ≡ bay.stepOf (bayAt (p .bays) number) e .refusal
+  own a = ap (λ (r : Reports). r .refusal) (reports-are-phys limit p number e (a .judged .valid) (a .phys) (a .there))
+
+  bay-judged : AtPhy limit p number e → bayLaws.Judged (bayAt (p .bays) number) e
+  bay-judged a = record { valid = bay-valid limit p (a .judged .valid) number (a .there); known = a .judged .known }
+
+  -- what a phy says of its event is what its number says
+  phy-told : AtPhy limit p number e → Says (bay.stepOf (bayAt (p .bays) number) e .refusal)
+  phy-told a =
+      let b = bayAt (p .bays) number in
+      let n = bay.stepOf b e .refusal in
+      let free : n ≡ 0 → Says 0 = λ z. inr (a, bayRefusals.not-refused-exactly b e .0 z .1) in
+      ⊎-elim {0, 0, 0} (λ z. subst Says (sym z) (free z)) (λ h. subst (λ (P : Type 0). P) (sym (phys-say n (h .0) (h .1))) a) (phys-numbers b e (bay-judged a))
+
+  -- an event may not come where it is not known, or is to the port and no Tx Open
+  may-not : mayCome number e ≡ false → (knownInTrace e ≡ false) ⊎ ((number ≡ thePort) × (e .code ≡ txOpen → ⊥))
+  may-not f =
+      by-test (knownInTrace e)
+      (λ k. by-test (isPorts number)
+      (λ t. by-test (eqb (e .code) txOpen) (λ c. absurd (false≢true (sym f ∙ rw (k, t, c) refl))) (λ c. inr (eqb-true number thePort t, eqb-false (e .code) txOpen c)))
+      (λ t. absurd (false≢true (sym f ∙ rw (k, t) refl))))
+      inl
+
+  module _ (v : validOf limit p ≡ true) (m : mayCome number e ≡ true) where
+    judged : Judged limit p e
+    judged = record { valid = v; known = parts (knownInTrace e) (not (isPorts number) || eqb (e .code) txOpen) m .0 }
+
+    at-port : isPorts number ≡ true → AtPort limit p number e
+    at-port t =
+        record {
+          judged = judged;
+          ports = eqb-true number thePort t;
+          opens = eqb-true (e .code) txOpen (rw t at (parts (knownInTrace e) (not (isPorts number) || eqb (e .code) txOpen) m .1));
+        }
+
+    at-phy : isPorts number ≡ false → ltb number (length (p .bays)) ≡ true → AtPhy limit p number e
+    at-phy f l = record { judged = judged; phys = eqb-false number thePort f; there = ltb-true number (length (p .bays)) l }
+
+    port-says : isPorts number ≡ true → Says (toPort p e .reports .refusal)
+    unfolding toPort
+    port-says t =
+        let waiting = length (p .queue) in
+        let full : ltb waiting mostWaiting ≡ false → Says queueFull = λ f. (at-port t, omega (arith, ltb-false waiting mostWaiting f, sound limit p v .short)) in
+        let room : ltb waiting mostWaiting ≡ true → Says 0 = λ l. inl (at-port t, ltb-true waiting mostWaiting l) in
+        by-pick Told (ltb waiting mostWaiting) room full
+
+    phy-says : isPorts number ≡ false → Says (toPhy p number e .reports .refusal)
+    unfolding toPhy
+    phy-says n =
+        let count = length (p .bays) in
+        let none : ltb number count ≡ false → Says noSuchPhy = λ f. (judged, eqb-false number thePort n, ltb-false number count f) in
+        by-pick Told (ltb number count)
+        (λ l. by-pick Told (eqb (bay.stepOf (bayAt (p .bays) number) e .refusal) 0) (λ _. phy-told (at-phy n l)) (λ _. phy-told (at-phy n l)))
+        none
+
+  says : Says (refusalOf limit p number e)
+  unfolding portStepOf
+  says =
+      let none : validOf limit p ≡ true → mayCome number e ≡ false → Says badEvent = λ v f. (v, may-not f) in
+      by-pick Told (validOf limit p)
+      (λ v. by-pick Told (mayCome number e) (λ m. by-pick Told (isPorts number) (port-says v m) (phy-says v m)) (none v))
+      (λ f. f)
+
+  -- of the refusal that a step reports
+  asks : (n : ℕ) → refusalOf limit p number e ≡ n → Says n
+  asks n q = subst Says q says
+
+  -- a Tx Open goes to the port, and an event with no phy nowhere
+  to-port : AtPort limit p number e → portStepOf limit p number e ≡ toPort p e
+  unfolding portStepOf
+  to-port a = rw (a .judged .valid, a .judged .known, eq-eqb number thePort (a .ports), eq-eqb (e .code) txOpen (a .opens))
+
+  to-none : Judged limit p e → (number ≡ thePort → ⊥) → length (p .bays) ≤ number → portStepOf limit p number e ≡ refused p noSuchPhy
+  unfolding portStepOf toPhy
+  to-none j n l = rw (j .valid, j .known, ne-eqb number thePort n, le-ltb number (length (p .bays)) l)
+
+-- the refusal of a step
+abbrev refusal : PortStepped → ℕ
+refusal r = r .reports .refusal
+
+module _ (p : Port) (e : Event) where
+  is-full : length (p .queue) ≡ mostWaiting → refusal (toPort p e) ≡ queueFull
+  unfolding toPort
+  is-full h = rw h
+
+  has-room : length (p .queue) < mostWaiting → refusal (toPort p e) ≡ 0
+  unfolding toPort
+  has-room h = rw (lt-ltb (length (p .queue)) mostWaiting h)
+
+pub bad-state-exactly : BadStateExactly
+bad-state-exactly limit p number e = (asks limit p number e badState, λ f. ap refusal (bad-state-first limit p number e f))
+
+pub bad-event-exactly : BadEventExactly
+bad-event-exactly limit p number e = (
+  asks limit p number e badEvent,
+  λ h. ap refusal
+      (⊎-elim {0, 0, 0}
+      (unknown-first limit p number e (h .0))
+      (λ q. subst (λ (k : ℕ). portStepOf limit p k e ≡ refused p badEvent) (sym (q .0)) (only-opens limit p e (h .0) (q .1)))
+      (h .1)),
+)
+
+pub no-such-phy-exactly : NoSuchPhyExactly
+no-such-phy-exactly limit p number e = (asks limit p number e noSuchPhy, λ h. ap refusal (to-none limit p number e (h .0) (h .1) (h .2)))
+
+pub queue-full-exactly : QueueFullExactly
+queue-full-exactly limit p number e = (
+  asks limit p number e queueFull,
+  λ h. ap refusal (to-port limit p number e (h .0)) ∙ is-full p e (h .1),
+)
+
+pub phys-own : PhysOwn
+phys-own limit p number e n l m = (
+  λ q. let a : AtPhy limit p number e = subst (λ (P : Type 0). P) (phys-say limit p number e n l m) (asks limit p number e n q) in
+      (a, sym (own limit p number e a) ∙ q),
+  λ h. own limit p number e (h .0) ∙ h .1,
+)
+
+pub not-refused-exactly : NotRefusedExactly
+not-refused-exactly limit p number e = (
+  asks limit p number e 0,
+  ⊎-elim {0, 0, 0}
+      (λ h. ap refusal (to-port limit p number e (h .0)) ∙ has-room p e (h .1))
+      (λ h. own limit p number e (h .0) ∙ bayRefusals.not-refused-exactly (bayAt (p .bays) number) e .1 (bay-judged limit p number e (h .0), h .1)),
+)
+
+-- ---- a phy's own refusals, as the bay has them
+
+module _ (limit : ℕ) (p : Port) (number : ℕ) (e : Event) where
+  -- what the bay's law says of its number, beside that it is judged, the port's says too
+  own-exactly : (n : ℕ) {A B : Type 0} → busy ≤ n → n ≤ wrongProtocol
+      → bay.stepOf (bayAt (p .bays) number) e .refusal ≡ n ↔ bayLaws.Judged (bayAt (p .bays) number) e × A × B
+      → refusalOf limit p number e ≡ n ↔ AtPhy limit p number e × A × B
+  own-exactly n l m law =
+      let o = phys-own limit p number e n l m in (
+        λ q. let h = o .0 q in let c = law .0 (h .1) in (h .0, c .1, c .2),
+        λ h. o .1 (h .0, law .1 (bay-judged limit p number e (h .0), h .1, h .2)),
+      )
+
+pub busy-exactly : BusyExactly
+busy-exactly limit p number e = own-exactly limit p number e busy (omega arith) (omega arith) (bayRefusals.busy-exactly (bayAt (p .bays) number) e)
+
+pub nothing-pending-exactly : NothingPendingExactly
+nothing-pending-exactly limit p number e =
+    own-exactly limit p number e nothingPending (omega arith) (omega arith) (bayRefusals.nothing-pending-exactly (bayAt (p .bays) number) e)
+
+pub not-connected-exactly : NotConnectedExactly
+not-connected-exactly limit p number e =
+    own-exactly limit p number e notConnected (omega arith) (omega arith) (bayRefusals.not-connected-exactly (bayAt (p .bays) number) e)
+
+pub wrong-protocol-exactly : WrongProtocolExactly
+wrong-protocol-exactly limit p number e =
+    let o = phys-own limit p number e wrongProtocol (omega arith) (omega arith) in
+    let law = bayRefusals.wrong-protocol-exactly (bayAt (p .bays) number) e in (
+      λ q. let h = o .0 q in let c = law .0 (h .1) in (h .0, c .1, c .2, c .3),
+      λ h. o .1 (h .0, law .1 (bay-judged limit p number e (h .0), h .1, h .2, h .3)),
+    )

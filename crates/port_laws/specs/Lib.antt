@@ -1,0 +1,4 @@
+pub mod Laws
+pub mod InOrder
+pub mod EachPhy
+pub mod Shelf
