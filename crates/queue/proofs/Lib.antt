@@ -4,3 +4,4 @@ pub mod Places
 pub mod Determined
 pub mod Lending
 pub mod Moves
+pub mod Long

@@ -9,6 +9,7 @@ use Rattle.table.specs.Results.{Determines}
 use Rattle.event.specs.Table.{openKnown}
 use Rattle.event.specs.declared.Open.{Open}
 use Rattle.queue.specs.Lent.{mostWaiting, lentLength, lentAs, openFrom, queueIn, goodLent, joined, advanced}
+use Rattle.queue.specs.Lent as lent
 use Rattle.queue.specs.Contracts.{Judges, GivesOldest, Joins, Advances}
 
 -- ---- results are determined (proofs/Determined)
@@ -80,3 +81,13 @@ OldestFirst = (o : Open) (os : List Open) → openFrom (lentAs (o ∷ os)) ≡ o
 abbrev pub MovesUp : Type 0
 MovesUp =
     (o : Open) (os : List Open) → length os < mostWaiting → advanced (lentAs (o ∷ os)) (suc (length os)) ≡ lentAs os
+
+-- ---- any numbers (proofs/Long)
+
+-- whatever is lent stays as long
+pub record StaysLong (ns : List ℕ) (waiting : ℕ) : Type 0 where
+  pub joined : (o : Open) → length (lent.joined ns waiting o) ≡ length ns
+  pub advanced : length (lent.advanced ns waiting) ≡ length ns
+
+abbrev pub StayLong : Type 0
+StayLong = (ns : List ℕ) (waiting : ℕ) → StaysLong ns waiting

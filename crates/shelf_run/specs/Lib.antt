@@ -1,0 +1,4 @@
+pub mod Rows
+pub mod Running
+pub mod Stages
+pub mod Contracts
