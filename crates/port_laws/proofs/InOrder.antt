@@ -15,7 +15,7 @@ use Rattle.bay_laws.specs.Spelled.{openIf}
 use Rattle.port.specs.State.{Port, freshPort}
 use Rattle.port.specs.Step.{PortStepped, isPorts}
 use Rattle.port.specs.Log.{stepOn, log, after}
-use Rattle.port.proofs.Ways.{is-some, Way, is-refused, joins, at-once, takes, frees, ways}
+use Rattle.port.proofs.Ways.{Way, is-refused, joins, at-once, takes, frees, ways, is-some}
 use Rattle.port_laws.specs.InOrder.{acceptedByPort, requestsOf, handedOut, InOrder}
 
 -- nothing is accepted where an event is refused
@@ -23,7 +23,7 @@ pub none-opened : (e : Event) (n : ℕ) → (n ≡ 0 → ⊥) → openIf e n ≡
 none-opened e n h = simp (ne-eqb n 0 h, and-false)
 
 -- a Tx Open that is not refused is accepted
-pub is-opened : (e : Event) → e .code ≡ txOpen → openIf e 0 ≡ openOf e ∷ []
+is-opened : (e : Event) → e .code ≡ txOpen → openIf e 0 ≡ openOf e ∷ []
 is-opened e c = rw (eq-eqb (e .code) txOpen c)
 
 -- what is accepted in a step of the port

@@ -28,7 +28,7 @@ use Rattle.port.specs.Step.{PortStepped, reportsOf, openEvent, bayAt, lowestFre
 use Rattle.port.specs.declared.Reports.{Reports}
 use Rattle.port.specs.Log.{stepOn}
 use Rattle.port.proofs.Valid.{bay-valid, lowest-free}
-use Rattle.port.proofs.Ways.{is-some, Way, is-refused, joins, at-once, takes, frees, ways, opened}
+use Rattle.port.proofs.Ways.{Way, is-refused, joins, at-once, takes, frees, opened, ways, is-some}
 use Rattle.port_laws.specs.Laws.{requestsTo}
 use Rattle.port_laws.specs.EachPhy.{isTo, cameTo, acceptedIn, answeredIn, entryOf}
 use Rattle.port_laws.proofs.Steps.{its-open-known, oldest-known}

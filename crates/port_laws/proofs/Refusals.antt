@@ -1,16 +1,16 @@
--- Each refusal exactly when: the tests of a step, one behind the other, leave six places, and each has its own number; to a phy that is there it is the phy's own.
+-- Each refusal exactly when: every way of a step says why it is refused or why not, and each reason has its own number; to a phy that is there it is the phy's own.
 use Prim.Native.Nat.{ℕ, _≤_, _<_}
-use mathlib.Core.Bool.{true, false, _||_, not, and-false, false≢true}
+use mathlib.Core.Bool.{true, false, and-false, false≢true}
 use mathlib.Core.List.{List, [], _∷_}
 use mathlib.Core.Logic.{_↔_, _⊎_, inl, inr, ⊎-elim}
 use mathlib.Core.Path.{_≡_, refl, sym, ap, subst, _∙_}
 use native.Mathlib.Omega.{arith}
-use borrow.Author.Tests.{eqb-true, eqb-false, eq-eqb, ne-eqb, ltb-true, ltb-false, lt-ltb, le-ltb}
-use lib.Dec.{eqb, ltb}
+use borrow.Author.Tests.{eqb-true, eqb-false, eq-eqb, ne-eqb, lt-ltb, le-ltb}
+use lib.Dec.{eqb}
 use lib.ListN.{length}
 use Rattle.table.specs.Choice.{Row, _⇒_, rows}
 use Rattle.table.specs.Refusals.{badState, badEvent, busy, nothingPending, notConnected, wrongProtocol, queueFull, noSuchPhy}
-use Rattle.table.proofs.Laws.{by-test, by-pick, parts}
+use Rattle.table.proofs.Laws.{by-test, by-pick}
 use Rattle.event.specs.Names.{txOpen}
 use Rattle.event.specs.Table.{knownInTrace}
 use Rattle.event.specs.declared.Event.{Event}
@@ -25,9 +25,11 @@ use Rattle.bay_laws.proofs.Refusals as bayRefusals
 use Rattle.queue.specs.Lent.{mostWaiting}
 use Rattle.port.specs.Names.{thePort}
 use Rattle.port.specs.State.{Port, validOf}
-use Rattle.port.specs.Step.{PortStepped, refused, reportsOf, bayAt, isPorts, mayCome, toPort, toPhy, portStepOf}
+use Rattle.port.specs.Step.{PortStepped, refused, reportsOf, bayAt, isPorts, toPort, toPhy, portStepOf}
 use Rattle.port.specs.declared.Reports.{Reports}
 use Rattle.port.proofs.Valid.{sound, bay-valid}
+use Rattle.port.proofs.Ways as ways
+use Rattle.port.proofs.Ways.{Refuses, Way, is-refused, joins, at-once, takes, frees}
 use Rattle.port_laws.specs.Laws.{refusalOf, Judged, AtPort, AtPhy, phyAt, BadStateExactly, BadEventExactly, NoSuchPhyExactly, QueueFullExactly, PhysOwn, BusyExactly, NothingPendingExactly, NotConnectedExactly, WrongProtocolExactly, NotRefusedExactly, BadStateFirst, UnknownFirst, OnlyOpens, ReportsArePhys}
 
 -- ---- which refusal comes first
@@ -57,7 +59,7 @@ reports-are-phys limit p number e v n l =
     (λ f. sym (ap reportsOf (bayRefusals.refused-keeps b e (eqb-false (r .refusal) 0 f))))))
     (λ k. ap (λ (s : PortStepped). s .reports) (unknown-first limit p number e v k) ∙ sym (ap reportsOf (not-known b e (bay-valid limit p v number l) k)))
 
--- ---- six places
+-- ---- what each number says
 
 -- a bay that is valid refuses a known event with 3 to 6, or not at all
 phys-numbers : (b : Bay) (e : Event) → bayLaws.Judged b e → (bay.stepOf b e .refusal ≡ 0) ⊎ ((busy ≤ bay.stepOf b e .refusal) × (bay.stepOf b e .refusal ≤ wrongProtocol))
@@ -70,7 +72,7 @@ phys-numbers b e j =
     by-test (eqb n 0) (λ t. inl (eqb-true n 0 t)) (λ f. inr (omega (arith, eqb-false n 0 f), most))
 
 module _ (limit : ℕ) (p : Port) (number : ℕ) (e : Event) where
-  -- what each number says
+  -- of a refusal that is none of a phy's, and else that a phy is there
   abbrev numberRows : List (Row (Type 0))
   numberRows =
       (0 ⇒ ((AtPort limit p number e × (length (p .queue) < mostWaiting)) ⊎ (AtPhy limit p number e × Free (phyAt p number) e)))
@@ -83,13 +85,13 @@ module _ (limit : ℕ) (p : Port) (number : ℕ) (e : Event) where
   abbrev Says : ℕ → Type 0
   Says n = rows n numberRows (AtPhy limit p number e)
 
-  abbrev Told : PortStepped → Type 0
-  Told r = Says (r .reports .refusal)
-
   -- the numbers of a phy are none of these
   phys-say : (n : ℕ) → busy ≤ n → n ≤ wrongProtocol → Says n ≡ AtPhy limit p number e
   phys-say n l m =
       simp (ne-eqb n 0 (λ q. omega arith), ne-eqb n badState (λ q. omega arith), ne-eqb n badEvent (λ q. omega arith), ne-eqb n queueFull (λ q. omega arith), ne-eqb n noSuchPhy (λ q. omega arith))
+
+  judged : ways.Judged limit p e → Judged limit p e
+  judged j = record { valid = j .valid; known = j .known }
 
   -- to a phy that is there, the refusal is its bay's
   pub own : AtPhy limit p number e → refusalOf limit p number e ≡ bay.stepOf (bayAt (p .bays) number) e .refusal
@@ -106,58 +108,28 @@ module _ (limit : ℕ) (p : Port) (number : ℕ) (e : Event) where
       let free : n ≡ 0 → Says 0 = λ z. inr (a, bayRefusals.not-refused-exactly b e .0 z .1) in
       ⊎-elim {0, 0, 0} (λ z. subst Says (sym z) (free z)) (λ h. subst (λ (P : Type 0). P) (sym (phys-say n (h .0) (h .1))) a) (phys-numbers b e (bay-judged a))
 
-  -- an event may not come where it is not known, or is to the port and no Tx Open
-  may-not : mayCome number e ≡ false → (knownInTrace e ≡ false) ⊎ ((number ≡ thePort) × (e .code ≡ txOpen → ⊥))
-  may-not f =
-      by-test (knownInTrace e)
-      (λ k. by-test (isPorts number)
-      (λ t. by-test (eqb (e .code) txOpen) (λ c. absurd (false≢true (sym f ∙ rw (k, t, c) refl))) (λ c. inr (eqb-true number thePort t, eqb-false (e .code) txOpen c)))
-      (λ t. absurd (false≢true (sym f ∙ rw (k, t) refl))))
-      inl
+  at-port : ways.Judged limit p e → isPorts number ≡ true → e .code ≡ txOpen → AtPort limit p number e
+  at-port j t c = record { judged = judged j; ports = eqb-true number thePort t; opens = c }
 
-  module _ (v : validOf limit p ≡ true) (m : mayCome number e ≡ true) where
-    judged : Judged limit p e
-    judged = record { valid = v; known = parts (knownInTrace e) (not (isPorts number) || eqb (e .code) txOpen) m .0 }
+  at-phy : ways.Judged limit p e → isPorts number ≡ false → number < length (p .bays) → AtPhy limit p number e
+  at-phy j f l = record { judged = judged j; phys = eqb-false number thePort f; there = l }
 
-    at-port : isPorts number ≡ true → AtPort limit p number e
-    at-port t =
-        record {
-          judged = judged;
-          ports = eqb-true number thePort t;
-          opens = eqb-true (e .code) txOpen (rw t at (parts (knownInTrace e) (not (isPorts number) || eqb (e .code) txOpen) m .1));
-        }
-
-    at-phy : isPorts number ≡ false → ltb number (length (p .bays)) ≡ true → AtPhy limit p number e
-    at-phy f l = record { judged = judged; phys = eqb-false number thePort f; there = ltb-true number (length (p .bays)) l }
-
-    port-says : isPorts number ≡ true → Says (toPort p e .reports .refusal)
-    unfolding toPort
-    port-says t =
-        let waiting = length (p .queue) in
-        let full : ltb waiting mostWaiting ≡ false → Says queueFull = λ f. (at-port t, omega (arith, ltb-false waiting mostWaiting f, sound limit p v .short)) in
-        let room : ltb waiting mostWaiting ≡ true → Says 0 = λ l. inl (at-port t, ltb-true waiting mostWaiting l) in
-        by-pick Told (ltb waiting mostWaiting) room full
-
-    phy-says : isPorts number ≡ false → Says (toPhy p number e .reports .refusal)
-    unfolding toPhy
-    phy-says n =
-        let count = length (p .bays) in
-        let none : ltb number count ≡ false → Says noSuchPhy = λ f. (judged, eqb-false number thePort n, ltb-false number count f) in
-        by-pick Told (ltb number count)
-        (λ l. by-pick Told (eqb (bay.stepOf (bayAt (p .bays) number) e .refusal) 0) (λ _. phy-told (at-phy n l)) (λ _. phy-told (at-phy n l)))
-        none
-
-  says : Says (refusalOf limit p number e)
-  unfolding portStepOf
-  says =
-      let none : validOf limit p ≡ true → mayCome number e ≡ false → Says badEvent = λ v f. (v, may-not f) in
-      by-pick Told (validOf limit p)
-      (λ v. by-pick Told (mayCome number e) (λ m. by-pick Told (isPorts number) (port-says v m) (phy-says v m)) (none v))
-      (λ f. f)
+  -- so each way says what its number says
+  says : {r : PortStepped} → Way limit p number e r → Says (r .reports .refusal)
+  says (is-refused (Refuses.not-valid f)) = f
+  says (is-refused (Refuses.not-known v k)) = (v, inl k)
+  says (is-refused (Refuses.not-for-port j t c)) = (j .valid, inr (eqb-true number thePort t, c))
+  says (is-refused (Refuses.no-phy j f l)) = (judged j, eqb-false number thePort f, l)
+  says (is-refused (Refuses.is-full j t c l)) = (at-port j t c, omega (arith, l, sound limit p (j .valid) .short))
+  says (is-refused (Refuses.phys-own j f l _)) = phy-told (at-phy j f l)
+  says (joins w _) = inl (at-port (w .judged) (w .ports) (w .opens), w .room)
+  says (at-once w _ _) = inl (at-port (w .judged) (w .ports) (w .opens), w .room)
+  says (takes w _) = phy-told (at-phy (w .judged) (w .phys) (w .there))
+  says (frees _ _ w _ _) = phy-told (at-phy (w .judged) (w .phys) (w .there))
 
   -- of the refusal that a step reports
   asks : (n : ℕ) → refusalOf limit p number e ≡ n → Says n
-  asks n q = subst Says q says
+  asks n q = subst Says q (says (ways.ways limit p number e))
 
   -- a Tx Open goes to the port, and an event with no phy nowhere
   to-port : AtPort limit p number e → portStepOf limit p number e ≡ toPort p e

@@ -23,7 +23,7 @@ use Rattle.port.specs.State.{Port, validOf, freshPort}
 use Rattle.port.specs.Step.{PortStepped, openEvent, bayAt, lowestFree, isPorts}
 use Rattle.port.specs.Log.{stepOn, log, after}
 use Rattle.port.proofs.Valid.{bay-valid, lowest-free}
-use Rattle.port.proofs.Ways.{is-some, Way, is-refused, joins, at-once, takes, frees, ways}
+use Rattle.port.proofs.Ways.{Way, is-refused, joins, at-once, takes, frees, ways, is-some}
 use Rattle.port_laws.specs.InOrder.{requestsOf, acceptedByPort}
 use Rattle.port_laws.specs.EachPhy.{cameTo, entryOf}
 use Rattle.port_laws.specs.Shelf.{acceptedStraight, allAnswers, held, ShelfBalances}

@@ -15,7 +15,7 @@ use Rattle.port.specs.Names.{thePort}
 use Rattle.port.specs.State.{Port}
 use Rattle.port.specs.Step.{PortStepped, openEvent, bayAt, isPorts}
 use Rattle.port.proofs.Valid.{bay-valid}
-use Rattle.port.proofs.Ways.{is-some, Way, is-refused, joins, at-once, takes, frees, ways, opened}
+use Rattle.port.proofs.Ways.{Way, is-refused, joins, at-once, takes, frees, opened, ways, is-some}
 use Rattle.port_laws.specs.Laws.{StampsMoveOne}
 use Rattle.port_laws.proofs.Steps.{only-its-phy, oldest-known}
 use Rattle.port_laws.proofs.Refusals.{own}

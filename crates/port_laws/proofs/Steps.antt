@@ -28,7 +28,7 @@ use Rattle.port.specs.Names.{thePort}
 use Rattle.port.specs.State.{Port, freePhys, allPass, noneBeside, validOf, freshPort}
 use Rattle.port.specs.Step.{PortStepped, refused, openEvent, bayAt, lowestFree, isPorts}
 use Rattle.port.proofs.Valid.{sound, sound-valid, passes-set, bay-valid, none-free, then-free, lowest-free}
-use Rattle.port.proofs.Ways.{Way, is-refused, joins, at-once, takes, frees, ways, free-no-more}
+use Rattle.port.proofs.Ways.{Way, is-refused, joins, at-once, takes, frees, free-no-more, ways}
 use Rattle.port_laws.specs.Laws.{FreshValid, StaysValid, RefusedKeeps, AtMostOne, requestsTo, OthersEqual, OnlyItsPhy, OnlyReceiver}
 
 -- ---- validity
