@@ -8,3 +8,4 @@ pub mod OneEntry
 pub mod EachPhy
 pub mod InTime
 pub mod Shelf
+pub mod HandOuts

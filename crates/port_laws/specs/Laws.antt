@@ -16,14 +16,14 @@ use Rattle.event.specs.Table.{knownInTrace}
 use Rattle.event.specs.declared.Event.{Event}
 use Rattle.event.specs.declared.Open.{Open}
 use Rattle.event.specs.declared.ShelfEvent.{ShelfEvent}
-use Rattle.phy.specs.Names.{L3, P1, P2}
+use Rattle.phy.specs.Names.{L1, L3, P1, P2, fullTimer, sentOpen}
 use Rattle.phy.specs.declared.Phy.{Phy}
 use Rattle.phy_laws.specs.Laws.{Free}
 use Rattle.bay.specs.Step as bay
 use Rattle.queue.specs.Lent.{mostWaiting}
 use Rattle.port.specs.Names.{thePort}
-use Rattle.port.specs.State.{Port, freePhys, validOf, freshPort}
-use Rattle.port.specs.Step.{HandOut, refused, reportsOf, bayAt, portStepOf}
+use Rattle.port.specs.State.{Port, isFree, freePhys, validOf, freshPort}
+use Rattle.port.specs.Step.{HandOut, PortStepped, refused, reportsOf, bayAt, portStepOf}
 use Rattle.port.specs.Log.{after}
 
 -- ---- validity (proofs/Steps)
@@ -176,11 +176,27 @@ ReportsArePhys =
     → validOf limit p ≡ true → (number ≡ thePort → ⊥) → number < length (p .bays)
     → portStepOf limit p number e .reports ≡ reportsOf (bay.stepOf (bayAt (p .bays) number) e)
 
--- ---- hand-outs (proofs/Steps)
+-- ---- hand-outs (proofs/Steps, proofs/HandOuts)
 
 -- an event hands out one Open at most, whatever the port, the number and the event
 abbrev pub AtMostOne : Type 0
 AtMostOne = (limit : ℕ) (p : Port) (number : ℕ) (e : Event) → length (portStepOf limit p number e .handOuts) ≤ 1
+
+-- an Open that is handed out goes to the lowest phy that was free, which sends an OPEN at once, whatever came before in
+-- the same event: its timer is full, and its request is the Open as it came
+pub record Sends (p : Port) (r : PortStepped) (h : HandOut) : Type 0 where
+  pub there : h .phy < length (p .bays)
+  pub none-below : (j : ℕ) → j < h .phy → isFree (bayAt (r .next .bays) j) ≡ false
+  pub sent : h .sent ≡ sentOpen
+  pub link : phyAt (r .next) (h .phy) .link ≡ L1
+  pub port : phyAt (r .next) (h .phy) .port ≡ P2
+  pub timer : phyAt (r .next) (h .phy) .timer ≡ fullTimer
+  pub request : phyAt (r .next) (h .phy) .request ≡ h .request
+
+abbrev pub HandOutsSend : Type 0
+HandOutsSend =
+    (limit : ℕ) (p : Port) (number : ℕ) (e : Event) (h : HandOut) → portStepOf limit p number e .handOuts ≡ h ∷ []
+    → Sends p (portStepOf limit p number e) h
 
 -- the Opens that hand-outs give to the phy i
 abbrev pub requestsTo : (i : ℕ) → List HandOut → List Open
