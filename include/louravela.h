@@ -26,7 +26,7 @@
 #include <stdint.h>
 
 /* The version of this header and of the archives that are built beside it. */
-#define LOURAVELA_VERSION "4.5.0"
+#define LOURAVELA_VERSION "4.6.0"
 
 #ifdef __cplusplus
 extern "C" {

@@ -1,4 +1,4 @@
--- What each function promises that others call, cited by its `ensures` and, of the public ones, by `Determined` in Laws.
+-- What each function promises, cited by its `ensures` and, of the public ones, by `Determined` in Laws.
 use Prim.Native.Nat.{ℕ}
 use mathlib.Core.List.{List}
 use mathlib.Core.Path.{_≡_}
@@ -40,8 +40,8 @@ Plans scan b before number e r after =
     (r ≡ plannedOf scan b before number e) × (after ≡ queueAfter scan b before number e)
 
 -- `step` of a row and a queue as they are lent, which it leaves as `left` and `after`
-pub record Steps
-    (row : List Bay) (queue : List ℕ) (number : ℕ) (e : Event) (r : Stepped) (left : List Bay) (after : List ℕ) : Type 0
+pub record Steps (row : List Bay) (queue : List ℕ) (number : ℕ) (e : Event) (r : Stepped) (left : List Bay)
+    (after : List ℕ) : Type 0
   where
     pub says : r ≡ tells (lentStep row queue number e)
     pub row-left : left ≡ lentStep row queue number e .next .bays

@@ -145,7 +145,8 @@ takenOf s b queue number e =
 -- what was surveyed and lent makes a valid port
 abbrev pub soundScan : Scan → List ℕ → Bool
 soundScan scan queue =
-    scan .valid && ltb 0 (scan .count) && goodLent queue && (eqb (length (queueIn queue)) 0 || eqb (ones (scan .free)) 0)
+    scan .valid && ltb 0 (scan .count) && goodLent queue
+    && (eqb (length (queueIn queue)) 0 || eqb (ones (scan .free)) 0)
 
 -- where it stands then
 abbrev pub standingIn : Scan → List ℕ → Standing

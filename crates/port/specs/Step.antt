@@ -138,7 +138,8 @@ withPhy p number r =
 -- to the phy with a number, where there is one
 unfoldable pub toPhy : Port → (number : ℕ) → Event → PortStepped
 toPhy p number e =
-    pick (ltb number (length (p .bays))) (withPhy p number (bay.stepOf (bayAt (p .bays) number) e)) (refused p noSuchPhy)
+    pick (ltb number (length (p .bays))) (withPhy p number (bay.stepOf (bayAt (p .bays) number) e))
+    (refused p noSuchPhy)
 
 -- any port, any number and any event: the port is judged first, then the event, then where it goes
 unfoldable pub portStepOf : (limit : ℕ) → Port → (number : ℕ) → Event → PortStepped

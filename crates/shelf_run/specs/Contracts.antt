@@ -35,8 +35,7 @@ GoesOver scan bays numbers s budget before r queue after =
 
 -- `run` of a row and a queue as they are lent, over any trace under a budget, with the buffer `before`: it leaves the
 -- row, the queue and the buffer so
-pub record Runs
-    (row : List Bay) (numbers s : List ℕ) (budget : ℕ) (before : List ℕ) (r : Ran) (left : List Bay)
+pub record Runs (row : List Bay) (numbers s : List ℕ) (budget : ℕ) (before : List ℕ) (r : Ran) (left : List Bay)
     (queue after : List ℕ) : Type 0
   where
     pub says : r ≡ ranOf row numbers s budget before

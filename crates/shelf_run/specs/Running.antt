@@ -104,4 +104,5 @@ numbersAfter row numbers s budget buffer =
 -- the buffer afterwards: the bytes of the events taken, then what stood there; refused, it is as given
 abbrev pub bufferAfter : List Bay → List ℕ → List ℕ → (budget : ℕ) → (buffer : List ℕ) → List ℕ
 bufferAfter row numbers s budget buffer =
-    ifRuns row numbers budget buffer (sets buffer 0 (bytesOf (started (portIn row numbers)) (taken s budget))) λ n. buffer
+    ifRuns row numbers budget buffer (sets buffer 0 (bytesOf (started (portIn row numbers)) (taken s budget)))
+    λ n. buffer

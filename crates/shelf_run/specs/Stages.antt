@@ -68,7 +68,8 @@ puts s bays at b = pick (inUse s at) (set bays at b) bays
 abbrev pub goesOn :
     (rest : Standing → List Bay → List ℕ → Went) → Standing → List Bay → (at : ℕ) → port.Course → Went
 goesOn rest s bays at c =
-    oneMore (byteIn (c .taken .stepped .reports)) (rest (c .taken .standing) (puts s bays at (c .taken .bay)) (c .queue))
+    oneMore (byteIn (c .taken .stepped .reports))
+    (rest (c .taken .standing) (puts s bays at (c .taken .bay)) (c .queue))
 
 -- what is read at a place with budget left
 abbrev pub byRead : ToldShelf → Standing → List Bay → List ℕ → ((next : ℕ) → Standing → List Bay → List ℕ → Went) → Went
