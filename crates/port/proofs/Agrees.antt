@@ -1,16 +1,14 @@
 -- What the code makes of an event is what the definition says: by the ways of a step. The mask is that of the row, before and after, so its ones are the free phys and its trailing zeros the lowest.
-use Prim.Native.Nat.{ℕ, suc, _+_, _-_, _≤_, _<_}
+use Prim.Native.Nat.{ℕ, _+_, _-_, _≤_, _<_}
 use mathlib.Core.Bool.{Bool, true, false, _&&_, false≢true}
 use mathlib.Core.List.{List, [], _∷_, _++_}
 use mathlib.Core.Logic.{_⊎_, ⊎-elim}
 use mathlib.Core.Path.{_≡_, refl, sym, ap, subst, _∙_}
 use native.Mathlib.Omega.{arith}
 use borrow.Author.Tests.{lt-ltb, le-ltb, eq-eqb, ne-eqb}
-use lib.Count.{ones}
 use lib.Dec.{eqb, ltb}
 use lib.ListN.{length, set, length-set, length-append, length-map}
 use lib.Seq.{getD-set-same, set-set, set-getD}
-use Rattle.table.specs.Refusals.{badEvent, queueFull, noSuchPhy}
 use Rattle.table.proofs.Laws.{parts}
 use Rattle.event.specs.Names.{txOpen}
 use Rattle.event.specs.Table.{knownInTrace, openOf, openKnown}
@@ -31,7 +29,6 @@ use Rattle.port.specs.State.{Port, isFree, freeOf, freePhys, allPass, va
 use Rattle.port.specs.Step.{PortStepped, refused, onlyRefusal, reportsOf, openEvent, bayAt, lowestFree, received, isPorts, portStepOf}
 use Rattle.port.specs.Lent.{tells, tellsIn}
 use Rattle.port.specs.Stages.{standing, standingOf, someFree, lowestIn, concerned, freeAfter, Course, noneHanded, keepsAll, receives, handOn, onMoved, onPort, takenOf}
-use Rattle.port.specs.declared.Reports.{Reports}
 use Rattle.port.specs.declared.Standing.{Standing}
 use Rattle.port.proofs.Flags.{map-set, map-at}
 use Rattle.port.proofs.Mask.{ones-are-many, zeros-are-lowest, mask-set}

@@ -7,7 +7,6 @@ use borrow.Author.Tests.{eqb-false}
 use lib.Dec.{eqb}
 use lib.ListN.{set}
 use lib.Seq.{set-getD}
-use Rattle.table.specs.Choice.{pick}
 use Rattle.table.specs.Refusals.{badState, badEvent}
 use Rattle.table.proofs.Laws.{by-test, parts}
 use Rattle.event.specs.Table.{knownInTrace}
@@ -23,10 +22,9 @@ use Rattle.port.specs.Lent.{portIn, lentStep, numbersAfter, tells}
 use Rattle.port.specs.Stages.{begun, scanned, soundScan, standingIn, standingOf, Course, keepsAll, concerned, takenOf, planOf, targetOf, plannedOf, queueAfter}
 use Rattle.port.specs.Contracts.{Steps}
 use Rattle.port.specs.declared.Scan.{Scan}
-use Rattle.port.specs.declared.Standing.{Standing}
 use Rattle.port.proofs.Valid.{sound}
-use Rattle.port.proofs.Ways.{Refuses, Way, is-refused, joins, at-once, takes, frees, ways}
-use Rattle.port.proofs.Agrees.{Agrees, agrees}
+use Rattle.port.proofs.Ways.{Way, is-refused, joins, at-once, takes, frees, ways}
+use Rattle.port.proofs.Agrees.{agrees}
 use Rattle.port.proofs.Surveyed.{surveyed, sound-is, stands-so}
 
 -- ---- the numbers of a queue

@@ -1,5 +1,5 @@
 -- The mask of a row of flags: its ones are as many as are set, its trailing zeros the number of the lowest, at any width; and one flag changed over is one bit changed over.
-use Prim.Native.Nat.{ℕ, zero, suc, _+_, _*_, _/_, _%_, _^_, _≤_, _<_}
+use Prim.Native.Nat.{ℕ, zero, suc, _+_, _*_, _/_, _%_, _^_, _<_}
 use mathlib.Core.Bool.{Bool, true, false, not}
 use mathlib.Core.List.{List, [], _∷_}
 use mathlib.Core.Path.{_≡_, refl, sym, ap, _∙_}
@@ -7,13 +7,13 @@ use native.Mathlib.Nat.{le-of-suc-le-suc, not-suc-le-zero, pow-suc, one-mul}
 use native.Mathlib.Omega.{arith}
 use borrow.Author.Tests.{ltb-true}
 use lib.Bits.{bitXor, differ, xor-step, xor-zero-r}
-use lib.Count.{trailingZeros, ones, onesIn, under, trailing-of-zero, ones-step}
+use lib.Count.{trailingZeros, ones, onesIn, under, ones-step}
 use lib.Dec.{ltb, lit<}
 use lib.Pow.{shl-exact}
 use lib.ListN.{length, getD, set}
 use lib.Seq.{set-getD}
 use Rattle.table.specs.Flags.{flagOf}
-use Rattle.port.specs.Flags.{howMany, lowest, maskOf}
+use Rattle.port.specs.Flags.{maskOf}
 use Rattle.port.specs.Stages.{freeAfter}
 use Rattle.port.specs.Laws.{OnesAreMany, ZerosAreLowest}
 

@@ -1,6 +1,6 @@
 -- What a survey gathers of a row: as many as there are, the mask of the free ones, and whether all are valid; past the most of them, that the row is not valid. So a survey and a queue are sound exactly where the port is valid.
 use Prim.Native.Nat.{ℕ, suc, _+_, _*_, _^_, _≤_, _<_}
-use mathlib.Core.Bool.{Bool, true, false, _&&_, _||_}
+use mathlib.Core.Bool.{Bool, true, false, _&&_}
 use mathlib.Core.List.{List, [], _∷_}
 use mathlib.Core.Path.{_≡_, refl, sym, ap, subst, _∙_}
 use native.Mathlib.Nat.{add-mul, mul-assoc, mul-comm, add-assoc, pow-suc, one-mul, zero-mul, zero-add, add-zero}
@@ -8,11 +8,9 @@ use native.Mathlib.Numerals.{add-one}
 use native.Mathlib.Omega.{arith}
 use borrow.Author.Tests.{lt-ltb, le-ltb, le-leb, lt-leb}
 use lib.Bits.{bitOr, or-shifted-r}
-use lib.Count.{ones}
-use lib.Dec.{eqb, ltb, leb}
+use lib.Dec.{leb}
 use lib.ListN.{length}
 use lib.Pow.{pow-pos}
-use Rattle.table.specs.Choice.{pick}
 use Rattle.table.specs.Flags.{flagOf}
 use Rattle.table.proofs.Laws.{by-order}
 use Rattle.event.specs.Table.{openKnown}

@@ -1,20 +1,20 @@
 -- The ways that a step goes. An event that is not refused changes one record; an Open is handed out at most once, since a valid port has none waiting beside a free phy, and a phy that received one is not free.
 use Prim.Native.Nat.{ℕ, _≤_, _<_}
-use mathlib.Core.Bool.{Bool, true, false, _||_, not}
+use mathlib.Core.Bool.{true, false, _||_, not}
 use mathlib.Core.List.{List, [], _∷_, _++_}
 use mathlib.Core.Logic.{_⊎_, inl, inr}
 use mathlib.Core.Path.{_≡_, refl, sym, ap, subst, _∙_}
 use native.Mathlib.Omega.{arith}
 use borrow.Author.Tests.{ltb-true, ltb-false, lt-ltb, le-ltb, eqb-true, eqb-false}
 use lib.Dec.{eqb, ltb}
-use lib.ListN.{length, set, length-set}
+use lib.ListN.{length, set}
 use lib.Seq.{getD-set-same, set-set}
 use Rattle.table.specs.Choice.{pick}
 use Rattle.table.specs.Flags.{flagOf}
 use Rattle.table.specs.Refusals.{badState, badEvent, queueFull, noSuchPhy}
 use Rattle.table.proofs.Laws.{by-test, by-pick, parts}
 use Rattle.event.specs.Names.{txOpen}
-use Rattle.event.specs.Table.{argumentsKnown, knownOf, knownInTrace, openOf, openKnown}
+use Rattle.event.specs.Table.{knownOf, knownInTrace, openOf, openKnown}
 use Rattle.event.specs.declared.Event.{Event}
 use Rattle.event.specs.declared.Open.{Open}
 use Rattle.event.proofs.InTrace.{phys}
@@ -31,9 +31,9 @@ use Rattle.bay_laws.proofs.Steps.{stays-valid}
 use Rattle.bay_laws.proofs.Refusals.{step-is-move}
 use Rattle.queue.specs.Lent.{mostWaiting}
 use Rattle.port.specs.State.{Port, isFree, freePhys, allPass, validOf}
-use Rattle.port.specs.Step.{HandOut, PortStepped, Handed, refused, onlyRefusal, reportsOf, openEvent, bayAt, lowestFree, received, oneMore, handing, thenHanded, isPorts, toPort, toPhy, portStepOf}
+use Rattle.port.specs.Step.{PortStepped, Handed, refused, onlyRefusal, reportsOf, openEvent, bayAt, lowestFree, received, oneMore, handing, thenHanded, isPorts, toPort, toPhy, portStepOf}
 use Rattle.port.specs.declared.Reports.{Reports}
-use Rattle.port.proofs.Valid.{sound, none-free, none-waits, bay-valid, then-free, then-lowest, passes}
+use Rattle.port.proofs.Valid.{sound, none-free, none-waits, bay-valid, then-free, then-lowest}
 
 -- a port that is judged valid, and an event that may stand in a trace
 pub record Judged (limit : ℕ) (p : Port) (e : Event) : Type 0 where

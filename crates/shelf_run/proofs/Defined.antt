@@ -1,16 +1,15 @@
 -- The stages of a run are the definition's: by induction over the budget, each event of a valid port agrees, and the table keeps what stands behind the port's own records.
-use Prim.Native.Nat.{ℕ, zero, suc, _%_, _^_, _≤_, _<_}
-use mathlib.Core.Bool.{Bool, true, false, _&&_}
-use mathlib.Core.List.{List, [], _∷_, _++_}
-use mathlib.Core.Path.{_≡_, refl, sym, ap, subst, _∙_}
+use Prim.Native.Nat.{ℕ, zero, suc, _<_}
+use mathlib.Core.Bool.{true}
+use mathlib.Core.List.{List, _++_}
+use mathlib.Core.Path.{_≡_, refl, sym, ap, _∙_}
 use native.Mathlib.Nat.{mod-eq-of-lt}
 use native.Mathlib.Omega.{arith}
-use borrow.Author.Tests.{lt-ltb, le-ltb, lt-leb, le-leb}
+use borrow.Author.Tests.{lt-ltb, le-ltb}
 use lib.Dec.{eqb, ltb, lit<}
-use lib.ListN.{length, set, getD, length-append, List·getD-append, List·getD-eq-default}
+use lib.ListN.{length, set, getD, List·getD-append, List·getD-eq-default}
 use lib.Seq.{set-append-left, set-out}
 use Rattle.table.specs.Choice.{pick}
-use Rattle.table.specs.Refusals.{badState, badEvent, queueFull, noSuchPhy}
 use Rattle.table.proofs.Laws.{by-order, by-pick}
 use Rattle.event.specs.Table.{knownInTrace}
 use Rattle.event.specs.declared.Event.{Event}
@@ -22,12 +21,11 @@ use Rattle.bay_laws.proofs.Bytes.{are-bytes}
 use Rattle.queue.specs.Lent.{lentAs}
 use Rattle.shelf.specs.Reading.{ToldShelf, shelfEvent, shelfEnd, shelfRefused, readShelf}
 use Rattle.shelf.proofs.Accepted.{read-known}
-use Rattle.run.specs.Running.{Halt, byteFor}
+use Rattle.run.specs.Running.{byteFor}
 use Rattle.port.specs.Names.{mostPhys}
 use Rattle.port.specs.State.{Port, validOf}
-use Rattle.port.specs.Step.{PortStepped, refused, bayAt, portStepOf}
+use Rattle.port.specs.Step.{PortStepped, bayAt}
 use Rattle.port.specs.Log.{stepOn, after}
-use Rattle.port.specs.Lent.{tells}
 use Rattle.port.specs.Stages as port
 use Rattle.port.specs.Stages.{standingOf, concerned, takenOf}
 use Rattle.port.specs.declared.Standing.{Standing}
@@ -39,7 +37,7 @@ use Rattle.port.proofs.Agrees.{Agrees, agrees}
 use Rattle.port_laws.proofs.Steps.{stays-valid}
 use Rattle.shelf_run.specs.Running.{Course, onwards, taking, byteOf, bytesOf}
 use Rattle.shelf_run.specs.Stages as stages
-use Rattle.shelf_run.specs.Stages.{inUse, Went, rests, oneMore, byteIn, puts, goesOn, byRead, going}
+use Rattle.shelf_run.specs.Stages.{inUse, Went, oneMore, byteIn, puts, goesOn, byRead, going}
 
 -- ---- what is reported are bytes
 

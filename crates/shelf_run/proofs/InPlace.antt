@@ -1,23 +1,21 @@
 -- A run in place is the definition's: a row that fits is the front of its table, and comes back from there; refused, it is put back as it was.
 use Prim.Native.Nat.{ℕ, suc, _≤_}
-use mathlib.Core.Bool.{Bool, true, false, _&&_}
+use mathlib.Core.Bool.{Bool, true, false}
 use mathlib.Core.List.{List, [], _∷_, map, _++_, map-append, append-nil}
-use mathlib.Core.Path.{_≡_, refl, sym, ap, subst, _∙_}
+use mathlib.Core.Path.{_≡_, refl, sym, ap, _∙_}
 use native.Mathlib.Nat.{le-refl}
 use native.Mathlib.Omega.{arith}
 use borrow.Author.Tests.{lt-ltb, le-ltb}
-use lib.Dec.{leb, ltb}
-use lib.ListN.{length, take, drop, replicate, length-append, length-map, length-drop, drop-of-length-le, take-append-drop}
+use lib.Dec.{leb}
+use lib.ListN.{length, take, drop, length-append, length-map, length-drop, drop-of-length-le, take-append-drop}
 use lib.Seq.{sets, length-take-le, take-all, take-at, take-length, drop-length}
 use Rattle.table.proofs.Laws.{by-test, by-order, parts}
 use Rattle.event.specs.declared.ShelfEvent.{ShelfEvent}
 use Rattle.bay.specs.State as bay
-use Rattle.bay.specs.State.{freshBay, unstamped}
 use Rattle.bay.specs.declared.Bay.{Bay}
 use Rattle.bay.proofs.Steps.{phy-valid}
-use Rattle.queue.specs.Lent.{lentAs, queueIn, goodLent}
+use Rattle.queue.specs.Lent.{lentAs, goodLent}
 use Rattle.queue.proofs.Lending.{good-is-lent}
-use Rattle.run.specs.Running.{refused}
 use Rattle.run.proofs.Loop.{as-valid}
 use Rattle.port.specs.Names.{mostPhys}
 use Rattle.port.specs.Flags.{maskOf}
@@ -26,11 +24,10 @@ use Rattle.port.specs.Log.{stepOn, after}
 use Rattle.port.specs.Lent.{portIn}
 use Rattle.port.specs.Stages.{begun, scanned, standing, standingIn, standingOf}
 use Rattle.port.specs.declared.Scan.{Scan}
-use Rattle.port.specs.declared.Standing.{Standing}
 use Rattle.port.proofs.Valid.{sound, sound-valid}
 use Rattle.port.proofs.Surveyed.{sound-is, stands-so}
 use Rattle.port_laws.proofs.EachPhy.{after-count}
-use Rattle.shelf_run.specs.Rows.{fitting, fronted, loaded, stored}
+use Rattle.shelf_run.specs.Rows.{fitting, loaded, stored}
 use Rattle.shelf_run.specs.Running.{taking, bytesOf, unset, started, soundLent, taken, ran}
 use Rattle.shelf_run.specs.Stages.{empty, allUnset, Went, going, goneOf, queueAfterRun, bufferAfterRun}
 use Rattle.shelf_run.specs.Contracts.{Runs}

@@ -7,7 +7,7 @@ use native.Mathlib.Nat.{le-of-suc-le-suc, not-suc-le-zero}
 use native.Mathlib.Numerals.{add-one}
 use native.Mathlib.Omega.{arith}
 use borrow.Author.Tests.{le-leb, lt-leb, ltb-true}
-use lib.Dec.{eqb, leb, ltb}
+use lib.Dec.{eqb, ltb}
 use lib.ListN.{length, set, getD, length-set}
 use lib.Seq.{sets}
 use Rattle.table.specs.Choice.{pick}
@@ -29,7 +29,7 @@ use Rattle.queue.specs.Lent.{mostWaiting}
 use Rattle.port.specs.Names.{mostPhys}
 use Rattle.port.specs.Step.{reportsOf, isPorts}
 use Rattle.port.specs.Stages as port
-use Rattle.port.specs.Stages.{someFree, concerned, freeAfter, handOn, onMoved, onPort, takenOf}
+use Rattle.port.specs.Stages.{someFree, concerned, handOn, onMoved, onPort, takenOf}
 use Rattle.port.specs.declared.Reports.{Reports}
 use Rattle.port.specs.declared.Standing.{Standing}
 use Rattle.port.specs.declared.Taken.{Taken}

@@ -1,5 +1,5 @@
 -- What each function promises, cited by its `ensures` and, of the public one, by `Determined` in Laws.
-use Prim.Native.Nat.{ℕ, _+_, _≤_}
+use Prim.Native.Nat.{ℕ}
 use mathlib.Core.List.{List}
 use mathlib.Core.Path.{_≡_}
 use lib.ListN.{length}

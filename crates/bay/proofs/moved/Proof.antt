@@ -1,5 +1,4 @@
 -- `bay::moved` meets its contract: its test is the definition's.
-use mathlib.Core.Path.{_∙_, ap}
 use borrow.Author.Tests.{eq-eqb, ne-eqb}
 use Rattle.bay.specs.Step.{moveOf}
 use Rattle.bay.proofs.moved.Statement.{statement}

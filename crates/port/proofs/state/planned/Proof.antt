@@ -1,7 +1,6 @@
 -- `port::state::planned` meets its contract: the port is judged first, then the event.
 use borrow.Author.Needs.{needs}
 use mathlib.Core.Path.{sym, ap, _∙_}
-use mathlib.Core.Bool.{Bool}
 use Rattle.port.specs.declared.Judged.{Judged}
 use Rattle.port.specs.Stages.{planOf}
 use Rattle.port.proofs.state.planned.Statement.{statement}

@@ -1,7 +1,6 @@
 -- `port::taking::on_phy` meets its contract: the move is the bay's; refused, the record is as it was.
 use borrow.Author.Needs.{needs}
 use borrow.Author.Tests.{eq-eqb, ne-eqb}
-use mathlib.Core.Path.{sym, _∙_, refl}
 use Rattle.port.specs.Stages.{onMoved}
 use Rattle.port.proofs.taking.on_phy.Statement.{statement}
 use Rattle.port.proofs.taking.on_phy.Tie as tie

@@ -2,7 +2,7 @@
 use borrow.Author.Needs.{needs}
 use borrow.Author.Tests.{lt-ltb, le-ltb}
 use native.Mathlib.Omega.{arith}
-use mathlib.Core.Path.{sym, _∙_, refl}
+use mathlib.Core.Path.{sym, _∙_}
 use Rattle.port.specs.Stages.{onPort}
 use Rattle.port.proofs.taking.on_port.Statement.{statement}
 use Rattle.port.proofs.taking.on_port.Tie as tie

@@ -1,6 +1,6 @@
 -- `shelf_run::events::take_events` meets its contract: each turn takes one event off the definition, and what comes behind is read where it stops.
 use Prim.Native.Nat.{_-_}
-use mathlib.Core.Path.{sym, ap, _∙_, refl}
+use mathlib.Core.Path.{sym, ap, _∙_}
 use native.Mathlib.Omega.{arith}
 use borrow.Author.Needs.{needs}
 use Rattle.shelf.specs.Reading.{tellsShelf}
