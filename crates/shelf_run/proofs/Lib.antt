@@ -5,3 +5,9 @@ pub mod Unset
 pub mod Over
 pub mod Defined
 pub mod InPlace
+pub mod Determined
+pub mod Refusals
+pub mod Taking
+pub mod Stopping
+pub mod Bases
+pub mod Padded
