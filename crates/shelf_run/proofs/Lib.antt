@@ -10,4 +10,6 @@ pub mod Refusals
 pub mod Taking
 pub mod Stopping
 pub mod Bases
+pub mod Written
+pub mod Before
 pub mod Padded
