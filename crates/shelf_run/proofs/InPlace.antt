@@ -85,7 +85,7 @@ valid-still (b ∷ bays) h =
     let q = parts (bay.validOf b) (allPass bay.validOf bays) h in
     rw (as-valid (b .phy) refl (phy-valid b (q .0)), valid-still bays (q .1))
 
-started-valid : (p : Port) → validOf mostPhys p ≡ true → validOf mostPhys (started p) ≡ true
+pub started-valid : (p : Port) → validOf mostPhys p ≡ true → validOf mostPhys (started p) ≡ true
 started-valid p v =
     let s = sound mostPhys p v in
     sound-valid mostPhys (started p)

@@ -11,5 +11,5 @@ pub mod Taking
 pub mod Stopping
 pub mod Bases
 pub mod Written
-pub mod Before
 pub mod Padded
+pub mod Answers

@@ -17,7 +17,7 @@ use Rattle.shelf.specs.Reading.{shelfRefused, readShelf}
 use Rattle.shelf.specs.Laws.{ShelfPasses, ShelfReadsAll}
 use Rattle.run.specs.Running.{Halt, atEnd, atBudget, atFault, refused}
 use Rattle.run.specs.Laws.{answersIn, codesOf}
-use Rattle.replies.specs.Replies.{stoppedAtFault, faultAt, stopReply}
+use Rattle.replies.specs.Replies.{faultAt}
 use Rattle.replies.specs.declared.StopReply.{StopReply}
 use Rattle.port.specs.Names.{mostPhys, thePort}
 use Rattle.port.specs.State.{Port, freshPort}
@@ -158,23 +158,6 @@ abbrev pub LongerBuffer : Type 0
 LongerBuffer =
     (row : List Bay) (numbers s : List ℕ) (budget : ℕ) (buffer more : List ℕ) → budget ≤ length buffer
     → SameLonger row numbers s budget buffer more
-
--- ---- stopped at a fault (proofs/Before)
-
--- a run over the trace cut off at a place takes as many events, leaves all as this run does, and stops at the end
-pub record AsCutOff (row : List Bay) (numbers s : List ℕ) (budget : ℕ) (buffer : List ℕ) (place : ℕ) : Type 0 where
-  pub says :
-      ranOf row numbers (take place s) budget buffer ≡ ran (ranOf row numbers s budget buffer .count) atEnd
-  pub row-same : rowAfter row numbers (take place s) budget buffer ≡ rowAfter row numbers s budget buffer
-  pub numbers-same : numbersAfter row numbers (take place s) budget buffer ≡ numbersAfter row numbers s budget buffer
-  pub bytes-same : bufferAfter row numbers (take place s) budget buffer ≡ bufferAfter row numbers s budget buffer
-
--- so it is with the place of a fault: what stands from there on has no part in the run
-abbrev pub StoppedBefore : Type 0
-StoppedBefore =
-    (row : List Bay) (numbers s : List ℕ) (budget : ℕ) (buffer : List ℕ)
-    → ranOf row numbers s budget buffer .stop .how ≡ stoppedAtFault
-    → AsCutOff row numbers s budget buffer (ranOf row numbers s budget buffer .stop .place)
 
 -- ---- padded numbers (proofs/Padded)
 
