@@ -1,11 +1,11 @@
 -- The answers among the bytes are those of the log: a byte is an answer exactly where its step answers, since refusals lie below the answers.
-use Prim.Native.Nat.{ℕ, zero, suc, _+_, _≤_, _<_}
+use Prim.Native.Nat.{ℕ, zero, suc, _≤_, _<_}
 use mathlib.Core.Bool.{true, false, false≢true}
 use mathlib.Core.List.{List, [], _∷_, _++_, map}
-use mathlib.Core.Logic.{_↔_, _⊎_, inl, inr, ⊎-elim}
-use mathlib.Core.Path.{_≡_, refl, sym, ap, subst, _∙_}
+use mathlib.Core.Logic.{_↔_, inr, ⊎-elim}
+use mathlib.Core.Path.{_≡_, refl, sym, ap, _∙_}
 use native.Mathlib.Omega.{arith}
-use borrow.Author.Tests.{eqb-true, eqb-false, eq-eqb, ne-eqb, le-leb}
+use borrow.Author.Tests.{eq-eqb, ne-eqb, le-leb}
 use lib.Dec.{eqb, leb}
 use lib.ListN.{length, take, replicate, length-map}
 use Rattle.table.specs.Refusals.{badState, badEvent, noSuchPhy}
@@ -29,7 +29,7 @@ use Rattle.run.specs.Running.{byteFor}
 use Rattle.run.specs.Laws.{answersIn, codesOf}
 use Rattle.port.specs.Names.{mostPhys, thePort}
 use Rattle.port.specs.State.{Port, allPass, validOf, freshPort}
-use Rattle.port.specs.Step.{PortStepped, bayAt, portStepOf}
+use Rattle.port.specs.Step.{PortStepped, bayAt}
 use Rattle.port.specs.Log.{stepOn, log, after}
 use Rattle.port.specs.Lent.{portIn}
 use Rattle.port.proofs.Valid.{sound}

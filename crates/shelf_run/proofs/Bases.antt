@@ -18,7 +18,7 @@ use Rattle.port.specs.Names.{mostPhys}
 use Rattle.port.specs.State.{Port, validOf}
 use Rattle.port.specs.Log.{after}
 use Rattle.port.specs.Lent.{portIn}
-use Rattle.shelf_run.specs.Running.{Course, bytesOf, started, taken, taking}
+use Rattle.shelf_run.specs.Running.{Course, bytesOf, started, taken}
 use Rattle.shelf_run.specs.Laws.{Why, ended, spent, faulty, NoneToTake, no-budget, no-trace, first-faulty, TakesNoneExactly, UnsetsBases}
 use Rattle.shelf_run.proofs.Taking.{taking-ended, taking-fault}
 use Rattle.shelf_run.proofs.Stopping.{stops-well-always}

@@ -62,7 +62,7 @@ NotRefusedExactly =
     → ranOf row numbers s budget buffer .stop .refusal ≡ 0
     ↔ ((soundLent row numbers ≡ true) × (budget ≤ length buffer))
 
--- refused, nothing is taken and nothing told but the refusal; the row, its bases, the numbers and the buffer are as given
+-- refused, nothing is taken and nothing told but the refusal; row, bases, numbers and buffer are as given
 pub record Untouched (row : List Bay) (numbers s : List ℕ) (budget : ℕ) (buffer : List ℕ) : Type 0 where
   pub says :
       ranOf row numbers s budget buffer ≡ ran 0 (refused (ranOf row numbers s budget buffer .stop .refusal))
