@@ -34,11 +34,11 @@ use Rattle.shelf_run.specs.declared.Ran.{Ran}
 -- ---- the result is determined (proofs/Determined)
 
 -- two results that `run` may give coincide, as do the rows, the queues and the buffers that it leaves
-abbrev pub Determined : Type 0
-Determined =
-    (row : List Bay) (numbers s : List ℕ) (budget : ℕ) (before : List ℕ)
-    → DeterminesLent
-    (λ (r : Ran) (left : List Bay × List ℕ × List ℕ). Runs row numbers s budget before r (left .0) (left .1) (left .2))
+pub record Determined : Type 0 where
+  pub run :
+      (row : List Bay) (numbers s : List ℕ) (budget : ℕ) (before : List ℕ)
+      → DeterminesLent
+      (λ (r : Ran) (left : List Bay × List ℕ × List ℕ). Runs row numbers s budget before r (left .0) (left .1) (left .2))
 
 -- ---- each refusal exactly when (proofs/Refusals)
 
