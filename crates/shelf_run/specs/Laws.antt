@@ -38,7 +38,8 @@ pub record Determined : Type 0 where
   pub run :
       (row : List Bay) (numbers s : List ℕ) (budget : ℕ) (before : List ℕ)
       → DeterminesLent
-      (λ (r : Ran) (left : List Bay × List ℕ × List ℕ). Runs row numbers s budget before r (left .0) (left .1) (left .2))
+      (λ (r : Ran) (left : List Bay × List ℕ × List ℕ).
+      Runs row numbers s budget before r (left .0) (left .1) (left .2))
 
 -- ---- each refusal exactly when (proofs/Refusals)
 
