@@ -56,7 +56,7 @@ stops-well-always s budget = stops-from budget s 0
 
 -- ---- a trace without fault
 
-pub takes-from : (s : List ℕ) (budget place : ℕ) (es : List ShelfEvent) → ShelfReadsAll s place es → length es ≤ budget → taking budget s place ≡ record { events = es; halt = atEnd }
+takes-from : (s : List ℕ) (budget place : ℕ) (es : List ShelfEvent) → ShelfReadsAll s place es → length es ≤ budget → taking budget s place ≡ record { events = es; halt = atEnd }
 takes-from s budget place es (ended r) h = taking-ended s place budget (end-exactly s place .0 r)
 takes-from s zero place es (taken r t) h = absurd (omega arith)
 takes-from s (suc budget) place es (taken {e = e} {next} {es = later} r t) h = taking-event s place budget r ∙ ap (first e) (takes-from s budget next later t (omega arith))
