@@ -2,16 +2,21 @@
 use Prim.Native.Nat.{ℕ, _-_, _≤_, max}
 use mathlib.Core.List.{List}
 use mathlib.Core.Path.{_≡_}
-use lib.Dec.{eqb}
+use lib.Dec.{eqb, leb}
 use lib.ListN.{length, take}
 use lib.Seq.{slice}
 use Rattle.table.specs.Choice.{pick}
 use Rattle.table.specs.Results.{Leaves}
+use Rattle.io.specs.Counts.{Counts}
+use Rattle.output.specs.Contracts.{Puts, PutsNumbersLine}
 use Rattle.casefile.specs.Reading.{taken, partAt, numbersAt, placeAfter}
 use Rattle.casefile.specs.Records.{phyNumbers, phyOf, eventFrom}
+use Rattle.casefile.specs.Pieces.{repeated, allPieces, placeBehind, pairsAfter}
 use Rattle.casefile.specs.Window.{endAhead, countAhead, noneAhead, enoughAhead, aheadOf, aheadAfter, isOver}
 use Rattle.casefile.specs.declared.Taken.{Taken}
 use Rattle.casefile.specs.declared.Part.{Part}
+use Rattle.casefile.specs.declared.Filled.{Filled}
+use Rattle.casefile.specs.declared.Made.{Made}
 use Rattle.casefile.specs.declared.Ahead.{Ahead}
 use Rattle.casefile.specs.declared.Place.{Place}
 use Rattle.casefile.specs.declared.Turn.{Turn}
@@ -45,6 +50,24 @@ GivesNumbers p r = r ≡ phyNumbers p
 
 abbrev pub MakesEvent : List ℕ → Event → Type 0
 MakesEvent f r = r ≡ eventFrom f
+
+-- `put_piece` into the buffer `before`, which leaves it as `after`; callers need that what is filled lies in it
+pub record PutsPiece (piece : List ℕ) (times : ℕ) (before : List ℕ) (n : ℕ) (r : Filled) (after : List ℕ) : Type 0 where
+  pub puts : Puts (repeated times piece) before n (r .length) after
+  pub whole : r .whole ≡ leb (length (repeated times piece)) (length before - n)
+  pub within : r .length ≤ max n (length after)
+
+-- `put_pieces`; callers need that the pieces lie in the file
+pub record PutsPieces (s : List ℕ) (place : ℕ) (before : List ℕ) (r : Made) (after : List ℕ) : Type 0 where
+  pub puts : Puts (allPieces s place) before 0 (r .length) after
+  pub whole : r .whole ≡ leb (length (allPieces s place)) (length before)
+  pub there : r .next ≡ placeBehind (taken s place .value) s (taken s place .next)
+  pub counts : Counts (r .length) after
+  pub within : r .next ≤ length s
+
+-- `put_repeats` of bytes
+abbrev pub PutsRepeats : (kind : ℕ) (bytes before : List ℕ) (n r : ℕ) (after : List ℕ) → Type 0
+PutsRepeats kind bytes before n r after = PutsNumbersLine kind (pairsAfter 0 bytes) before n r after
 
 -- `to_front` of a part of the window `before`, which leaves it as `after`
 pub record MovesToFront (before : List ℕ) (from to r : ℕ) (after : List ℕ) : Type 0 where

@@ -1,15 +1,20 @@
 // A case file: its numbers, byte strings and records, and the window through which a program reads it.
 // What a fault spoils is left out, and the comparison with the expected output then fails.
 mod input;
+mod pieces;
 mod records;
+mod repeats;
 mod window;
 
 pub use input::take;
 pub use input::take_bytes;
 pub use input::take_many;
+pub use pieces::put_piece;
+pub use pieces::put_pieces;
 pub use records::event_of;
 pub use records::phy_numbers;
 pub use records::phy_of;
+pub use repeats::put_repeats;
 pub use window::next_case;
 
 // The numbers of a phy.
@@ -34,6 +39,19 @@ pub struct Taken {
 pub struct Part {
     pub from: usize,
     pub to: usize,
+}
+
+// How much of a buffer is filled, and whether there was room for all.
+pub struct Filled {
+    pub length: usize,
+    pub whole: bool,
+}
+
+// What pieces make, and where the case file is read next.
+pub struct Made {
+    pub next: usize,
+    pub length: usize,
+    pub whole: bool,
 }
 
 // The part of the window that holds what is to come, and whether the file has ended.

@@ -1,7 +1,7 @@
 // Cases of listings: the lister's own lines, with nothing before them.
 ghost use Rattle.casefile.specs.Contracts.{EndsWithin};
-use crate::pieces::put_pieces;
 use casefile::Place;
+use casefile::put_pieces;
 use listing::LineWritten;
 use output::GATHERED;
 use output::write_out;

@@ -5,8 +5,6 @@ ghost use Rattle.casefile.specs.Contracts.{EndsWithin};
 
 mod events;
 mod listings;
-mod pieces;
-mod repeats;
 mod runs;
 mod traces;
 

@@ -2,13 +2,13 @@
 ghost use Prim.Native.Nat.{_≤_, max};
 ghost use lib.ListN.{length};
 ghost use Rattle.casefile.specs.Contracts.{EndsWithin};
-use crate::pieces::put_piece;
-use crate::pieces::put_pieces;
-use crate::repeats::put_repeats;
 use casefile::PHY_NUMBERS;
 use casefile::Place;
 use casefile::phy_numbers;
 use casefile::phy_of;
+use casefile::put_piece;
+use casefile::put_pieces;
+use casefile::put_repeats;
 use casefile::take;
 use casefile::take_many;
 use output::end_line;

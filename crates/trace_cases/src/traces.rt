@@ -1,9 +1,9 @@
 // Cases of whole traces: each event is read and written again where it stood.
 ghost use Rattle.casefile.specs.Contracts.{EndsWithin};
 use crate::events::put_said;
-use crate::pieces::put_piece;
-use crate::repeats::put_repeats;
 use casefile::Place;
+use casefile::put_piece;
+use casefile::put_repeats;
 use casefile::take_bytes;
 
 // What the copy is filled with, so that a byte to which no event was written shows.

@@ -1,20 +1,14 @@
 // Buffers of pieces, each a byte string that stands there a number of times.
-ghost use Prim.Native.Nat.{_≤_, max};
-ghost use lib.ListN.{length};
-ghost use Rattle.io.specs.Counts.{Counts};
-use casefile::take;
-use casefile::take_bytes;
+ghost use Rattle.casefile.specs.Contracts.{PutsPiece, PutsPieces};
+use crate::Filled;
+use crate::Made;
+use crate::input::take;
+use crate::input::take_bytes;
 use output::put_all;
 
-// How much of a buffer is filled, and whether there was room for all.
-pub(crate) struct Filled {
-    pub(crate) length: usize,
-    pub(crate) whole: bool,
-}
-
 // A piece so many times, from n on.
-pub(crate) fn put_piece(piece: &[u8], times: u64, buffer: &mut [u8], n: usize) -> Filled
-    ensures { λ r. ⌜ r .length ≤ max n (length (now (buffer .exit))) ⌝ }
+pub fn put_piece(piece: &[u8], times: u64, buffer: &mut [u8], n: usize) -> Filled
+    ensures { λ r. ⌜ PutsPiece (now (piece .entry)) times (now (buffer .entry)) n r (now (buffer .exit)) ⌝ }
 {
     let mut left = times;
     let mut end = n;
@@ -35,17 +29,9 @@ pub(crate) fn put_piece(piece: &[u8], times: u64, buffer: &mut [u8], n: usize) -
     }
 }
 
-// What pieces make, and where the case file is read next.
-pub(crate) struct Made {
-    pub(crate) next: usize,
-    pub(crate) length: usize,
-    pub(crate) whole: bool,
-}
-
 // count, pieces: end to end in a buffer, as far as it has room
-pub(crate) fn put_pieces(s: &[u8], place: usize, buffer: &mut [u8]) -> Made
-    ensures { λ r. ⌜ Counts (r .length) (now (buffer .exit)) ⌝ }
-    ensures { λ r. ⌜ r .next ≤ length (now (s .entry)) ⌝ }
+pub fn put_pieces(s: &[u8], place: usize, buffer: &mut [u8]) -> Made
+    ensures { λ r. ⌜ PutsPieces (now (s .entry)) place (now (buffer .entry)) r (now (buffer .exit)) ⌝ }
 {
     let count = take(s, place);
     let mut left = count.value;
