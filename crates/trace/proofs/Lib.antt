@@ -5,9 +5,11 @@ pub mod WriteLoop
 pub mod First
 pub mod Determined
 pub mod Why
+pub mod Room
 pub mod Refusals
 pub mod Accepted
 pub mod RoundTrip
 pub mod Written
 pub mod Calls
 pub mod Padded
+pub mod Walk

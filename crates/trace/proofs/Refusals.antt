@@ -1,25 +1,22 @@
 -- Each refusal exactly when the paper says: forwards by why the reader said it, backwards by computing it there.
-use Prim.Native.Nat.{ℕ, _+_}
-use mathlib.Core.Bool.{true, false}
+use Prim.Native.Nat.{ℕ}
+use mathlib.Core.Bool.{false}
 use mathlib.Core.List.{List}
 use mathlib.Core.Logic.{_↔_, _⊎_, inl, inr, ⊎-elim}
-use mathlib.Core.Path.{_≡_, refl, sym, _∙_}
+use mathlib.Core.Path.{_≡_, refl, _∙_}
 use native.Mathlib.Omega.{arith}
-use borrow.Author.Tests.{lt-leb, leb-false}
-use lib.ListN.{length, drop}
+use lib.ListN.{drop}
 use Rattle.table.specs.Refusals.{badEvent, cut, tooLarge}
-use Rattle.table.proofs.Laws.{apart, by-test}
 use Rattle.number.specs.Reading.{value, readNumber}
 use Rattle.number.specs.Reading as number
 use Rattle.number.proofs.Refusals as number-laws
 use Rattle.event.specs.Table.{within, knownInTrace}
-use Rattle.event.specs.declared.Event.{Event}
 use Rattle.event.specs.declared.Range.{Range}
 use Rattle.trace.specs.Reading.{refused, fault, inRange, arguments, readEvent}
-use Rattle.trace.specs.Writing.{wrote, eventBytes, fits}
-use Rattle.trace.specs.Writing as writing
+use Rattle.trace.specs.Writing.{eventBytes}
 use Rattle.trace.specs.Laws.{Reaches, Comes, Faulty, CutExactly, TooLargeExactly, BadEventExactly, RefusesNoOther, FaultAtFirst, EndExactly, WriterBadEventExactly, NoRoomExactly, RefusedKeeps}
 use Rattle.trace.proofs.First.{at-end, code-fault, code-bad, code-good}
+use Rattle.trace.proofs.Room as room
 use Rattle.trace.proofs.Why.{Stops, unread, outside, because}
 
 -- ---- backwards
@@ -88,37 +85,11 @@ end-exactly s place = (because s place, at-end s place)
 
 -- ---- the writer
 
-refused-is : {m n : ℕ} → writing.refused m ≡ writing.refused n → m ≡ n
-refused-is e = cc
-
-pub refused-not-wrote : {m n : ℕ} → writing.refused m ≡ wrote n → ⊥
-refused-not-wrote e = apart cc
-
-module _ (e : Event) (buffer : List ℕ) (place : ℕ) where
-  -- by whether it is known and whether it fits
-  pub by-room : {A : Type 0} → (knownInTrace e ≡ false → A) → (knownInTrace e ≡ true → fits e buffer place ≡ false → A) → (knownInTrace e ≡ true → fits e buffer place ≡ true → A) → A
-  by-room a b c = by-test (knownInTrace e) (λ k. by-test (fits e buffer place) (c k) (b k)) a
-
 pub writer-bad-event-exactly : WriterBadEventExactly
-writer-bad-event-exactly e buffer place = (
-  λ h. by-room e buffer place (λ k. k)
-      (λ k f. absurd (let z = refused-is (rw (k, f) at h) in omega arith))
-      (λ k f. absurd (refused-not-wrote (sym (rw (k, f) at h)))),
-  λ k. rw k refl,
-)
+writer-bad-event-exactly e = room.bad-event-exactly (knownInTrace e) (eventBytes e)
 
 pub no-room-exactly : NoRoomExactly
-no-room-exactly e buffer place = (
-  λ h. by-room e buffer place
-      (λ k. absurd (let z = refused-is (rw k at h) in omega arith))
-      (λ k f. (k, leb-false (place + length (eventBytes e)) (length buffer) f))
-      (λ k f. absurd (refused-not-wrote (sym (rw (k, f) at h)))),
-  λ r. rw (r .0, lt-leb (place + length (eventBytes e)) (length buffer) (r .1)) refl,
-)
+no-room-exactly e = room.no-room-exactly (knownInTrace e) (eventBytes e)
 
 pub refused-keeps : RefusedKeeps
-refused-keeps e buffer place n h =
-    by-room e buffer place
-    (λ k. rw k (refl, refl))
-    (λ k f. rw (k, f) (refl, refl))
-    (λ k f. absurd (refused-not-wrote (sym (rw (k, f) at h))))
+refused-keeps e = room.refused-keeps (knownInTrace e) (eventBytes e)

@@ -5,7 +5,6 @@ use mathlib.Core.List.{List, [], _∷_, _++_, append-assoc}
 use mathlib.Core.Path.{_≡_, refl, sym, ap, ap₂, subst, _∙_}
 use native.Mathlib.Nat.{add-assoc, add-zero}
 use native.Mathlib.Omega.{arith}
-use borrow.Author.Tests.{leb-true}
 use lib.ListN.{length, take, drop, getD, length-append, length-drop}
 use lib.Seq.{sets, sets-eq, take-at, length-take-le}
 use Rattle.table.proofs.Laws.{apart}
@@ -17,13 +16,14 @@ use Rattle.event.specs.declared.Event.{Event}
 use Rattle.event.specs.declared.Range.{Range}
 use Rattle.event.proofs.InTrace.{in-trace-exactly}
 use Rattle.trace.specs.Reading.{event, end, got, arguments, readEvent}
-use Rattle.trace.specs.Writing.{wrote, bytesOf, eventBytes, traceBytes, writeEvent, bufferAfter}
+use Rattle.trace.specs.Writing.{wrote, bytesOf, eventBytes, traceBytes, writeEvent}
 use Rattle.trace.specs.Laws.{ReadBack, OthersKept, ReadsAll, ended, taken, AllKnown, TraceBack, PhysAndStamps, StampsBack, ReadsOnce}
 use Rattle.trace.proofs.Known.{AllWithin, sixOf, is-known, numbers-small, lacks, small, at-most-six}
 use Rattle.trace.proofs.Numbers.{behind, inside}
 use Rattle.trace.proofs.ReadLoop.{kept, same-event}
 use Rattle.trace.proofs.First.{at-end, code-good}
-use Rattle.trace.proofs.Refusals.{refused-not-wrote, by-room}
+use Rattle.trace.proofs.Room.{Fitted}
+use Rattle.trace.proofs.Room as room
 
 -- ---- the arguments
 
@@ -87,22 +87,12 @@ module _ (e : Event) (k : knownInTrace e ≡ true) where
 
 -- ---- in a buffer
 
-wrote-is : {m n : ℕ} → wrote m ≡ wrote n → m ≡ n
-wrote-is e = cc
-
 -- a length is told only of an event that is known and fits
-pub record Fits (e : Event) (buffer : List ℕ) (place n : ℕ) : Type 0 where
-  pub known : knownInTrace e ≡ true
-  pub room : place + length (eventBytes e) ≤ length buffer
-  pub long : n ≡ length (eventBytes e)
-  pub left : bufferAfter e buffer place ≡ sets buffer place (eventBytes e)
+abbrev pub Fits : Event → (buffer : List ℕ) → (place n : ℕ) → Type 0
+Fits e = Fitted (knownInTrace e) (eventBytes e)
 
 pub fitted : (e : Event) (buffer : List ℕ) (place n : ℕ) → writeEvent e buffer place ≡ wrote n → Fits e buffer place n
-fitted e buffer place n h =
-    by-room e buffer place
-    (λ k. absurd (refused-not-wrote (rw k at h)))
-    (λ k f. absurd (refused-not-wrote (rw (k, f) at h)))
-    (λ k f. record { known = k; room = leb-true (place + length (eventBytes e)) (length buffer) f; long = sym (wrote-is (rw (k, f) at h)); left = rw (k, f) refl })
+fitted e = room.fitted (knownInTrace e) (eventBytes e)
 
 pub read-back : ReadBack
 read-back e buffer place n h =
