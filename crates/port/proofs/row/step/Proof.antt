@@ -54,7 +54,7 @@ use Rattle.port.specs.declared.Scan.{Scan}
 use Rattle.port.specs.declared.Stepped.{Stepped}
 use Rattle.port.specs.declared.Taken.{Taken}
 use Rattle.port.proofs.InPlace.{in-place}
-use Rattle.port.proofs.Kit.{R, vals, valsS, tells, tellsS, at-row, row-val, typed, typedS, makes, makesS, ends, hears, lends, comes-back}
+use Rattle.port.proofs.Kit.{R, vals, valsS, tells, tellsS, at-row, row-val, typed, typedS, makes, makesS, ends, hears, lends, comes-back, passes}
 use Rattle.port.proofs.Scan as S
 use Rattle.port.proofs.Stepped as Z
 use Rattle.port.proofs.Stepped.Laws as Z′
@@ -181,9 +181,7 @@ module _ {M : Type 1} (𝓤 : URA M) (H : Heap 𝓤) (A : Atoms 𝓤) (W : Given
   to-survey ν δ s = (((ν ∷ [], tt), (fullShare, tt), tt, (at-row b o ys δ, (s, tt)), (v ∷ [], (valsS s, tt))), tt)
 
   goes-survey : (ν : ℕ) (δ : GName) (s : Scan) → Is S.the-row s (valsS s) → ent 𝓤 (sep 𝓤 (A .lft (ν ∷ []) fullShare) (sem 𝓤 H A (Shr ν δ))) (Survey 𝓤 H A mem run .pre (to-survey ν δ s))
-  goes-survey ν δ s g =
-      qed W (‵ (flft (ν ∷ []) fullShare) ∷ ‵ (Shr ν δ) ∷ []) ∵ nothing ! $ move ! (1 ∷ 0 ∷ []) $ join ! $
-      nothing ! $ owned ! S.the-row (Is S.the-row) (makesS 𝓤 H A W) s (valsS s) g $ fjoin ! $ move ! (2 ∷ 0 ∷ []) $ fjoin ! $ move ! (1 ∷ 0 ∷ []) $ join ! $ frame ! $ done !
+  goes-survey ν δ s g = passes 𝓤 H A W (ν ∷ []) fullShare (Shr ν δ) (S.the-row ∷ []) (makesS 𝓤 H A W, tt) (s, tt) (valsS s, tt) (g, tt)
 
   abbrev to-target : Scan → Target 𝓤 H A mem run .Ghost
   to-target s = ((tt, tt, tt, (s, (number, tt)), (valsS s, (vint w64 number ∷ [], tt))), tt)
@@ -202,9 +200,7 @@ module _ {M : Type 1} (𝓤 : URA M) (H : Heap 𝓤) (A : Atoms 𝓤) (W : Given
   to-record ν δ i f = (((ν ∷ [], tt), (fullShare, tt), tt, (at-row b o ys δ, (i, (f, tt))), (v ∷ [], (vint w64 i ∷ [], (vals f, tt)))), tt)
 
   goes-record : (ν : ℕ) (δ : GName) (i : ℕ) (f : Bay) → i < 2 ^ 64 → Is R f (vals f) → ent 𝓤 (sep 𝓤 (A .lft (ν ∷ []) fullShare) (sem 𝓤 H A (Shr ν δ))) (RecordAt 𝓤 H A mem run .pre (to-record ν δ i f))
-  goes-record ν δ i f gi gf =
-      qed W (‵ (flft (ν ∷ []) fullShare) ∷ ‵ (Shr ν δ) ∷ []) ∵ nothing ! $ move ! (1 ∷ 0 ∷ []) $ join ! $
-      nothing ! $ owned ! R (Is R) (makes 𝓤 H A W) f (vals f) gf $ fjoin ! $ owned ! usize (Is usize) (uint-makes 𝓤 H A W w64) i _ (refl, gi) $ fjoin ! $ move ! (2 ∷ 0 ∷ []) $ fjoin ! $ move ! (1 ∷ 0 ∷ []) $ join ! $ frame ! $ done !
+  goes-record ν δ i f gi gf = passes 𝓤 H A W (ν ∷ []) fullShare (Shr ν δ) (usize ∷ R ∷ []) (uint-makes 𝓤 H A W w64, (makes 𝓤 H A W, tt)) (i, (f, tt)) (vint w64 i ∷ [], (vals f, tt)) ((refl, gi), (gf, tt))
 
   abbrev to-planned : Scan → Bay → Planned 𝓤 H A mem run .Ghost
   to-planned s own = (((κ′, tt), (q′, tt), tt, (s, (own, (queue, (number, (event, tt))))), (valsS s, (vals own, (w ∷ [], (vint w64 number ∷ [], (valsE event, tt)))))), tt)
@@ -218,9 +214,7 @@ module _ {M : Type 1} (𝓤 : URA M) (H : Heap 𝓤) (A : Atoms 𝓤) (W : Given
   to-put i own = (((κ, tt), (q, tt), tt, (at-row b o ys γ, (i, (own, tt))), (v ∷ [], (vint w64 i ∷ [], (vals own, tt)))), tt)
 
   goes-put : (i : ℕ) (own : Bay) → i < 2 ^ 64 → Is R own (vals own) → ent 𝓤 (sep 𝓤 (A .lft κ q) (sem 𝓤 H A (MutSlice (named 0) κ R .own (at-row b o ys γ) (v ∷ [])))) (PutRecord 𝓤 H A mem run .pre (to-put i own))
-  goes-put i own gi go =
-      qed W (‵ (flft κ q) ∷ ‵ (MutSlice (named 0) κ R .own (at-row b o ys γ) (v ∷ [])) ∷ []) ∵ nothing ! $ move ! (1 ∷ 0 ∷ []) $ join ! $
-      nothing ! $ owned ! R (Is R) (makes 𝓤 H A W) own (vals own) go $ fjoin ! $ owned ! usize (Is usize) (uint-makes 𝓤 H A W w64) i _ (refl, gi) $ fjoin ! $ move ! (2 ∷ 0 ∷ []) $ fjoin ! $ move ! (1 ∷ 0 ∷ []) $ join ! $ frame ! $ done !
+  goes-put i own gi go = passes 𝓤 H A W κ q (MutSlice (named 0) κ R .own (at-row b o ys γ) (v ∷ [])) (usize ∷ R ∷ []) (uint-makes 𝓤 H A W w64, (makes 𝓤 H A W, tt)) (i, (own, tt)) (vint w64 i ∷ [], (vals own, tt)) ((refl, gi), (go, tt))
 
   exits : (r : Stepped) (zs : List Bay) (ws : List ℕ) → Steps ys (queue .now) number event r zs ws → length zs ≡ length ys → length ws ≡ length (queue .now) → Is Z.the-row r (valsZ r)
       → ent 𝓤 (⋆ 𝓤 H A (Tok κ q ∷ ‵ (finally R γ zs) ∷ Tok κ′ q′ ∷ ‵ (finally u64 (queue .name) ws) ∷ [])) (Post (Z′.lowered r))
