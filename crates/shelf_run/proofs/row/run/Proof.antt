@@ -41,7 +41,7 @@ use denote.Exit.{yes}
 use Rattle.bay.specs.declared.Bay.{Bay}
 use Rattle.port.specs.Stages.{begun as nothing-yet, scanned}
 use Rattle.port.specs.declared.Scan.{Scan}
-use Rattle.port.proofs.Kit.{R, valsS, tellsS, at-row, row-val, typedS, makesS, ends, hears, lends, comes-back}
+use Rattle.port.proofs.Kit.{R, valsS, tellsS, at-row, row-val, typedS, makesS, ends, hears, lends, comes-back, passes}
 use Rattle.port.proofs.Scan as S
 use Rattle.port.proofs.begun as begun
 use Rattle.port.proofs.begun.Symbol as begun-def
@@ -197,9 +197,7 @@ module _ {M : Type 1} (𝓤 : URA M) (H : Heap 𝓤) (A : Atoms 𝓤) (W : Given
   to-survey ν δ s = (((ν ∷ [], tt), (fullShare, tt), tt, (at-row b o ys δ, (s, tt)), (v ∷ [], (valsS s, tt))), tt)
 
   goes-survey : (ν : ℕ) (δ : GName) (s : Scan) → Is S.the-row s (valsS s) → ent 𝓤 (sep 𝓤 (A .lft (ν ∷ []) fullShare) (sem 𝓤 H A (Shr ν δ))) (Survey 𝓤 H A mem runs .pre (to-survey ν δ s))
-  goes-survey ν δ s g =
-      qed W (‵ (flft (ν ∷ []) fullShare) ∷ ‵ (Shr ν δ) ∷ []) ∵ nothing ! $ move ! (1 ∷ 0 ∷ []) $ join ! $
-      nothing ! $ owned ! S.the-row (Is S.the-row) (makesS 𝓤 H A W) s (valsS s) g $ fjoin ! $ move ! (2 ∷ 0 ∷ []) $ fjoin ! $ move ! (1 ∷ 0 ∷ []) $ join ! $ frame ! $ done !
+  goes-survey ν δ s g = passes 𝓤 H A W (ν ∷ []) fullShare (Shr ν δ) (S.the-row ∷ []) (makesS 𝓤 H A W, tt) (s, tt) (valsS s, tt) (g, tt)
 
   abbrev to-empty : Empty 𝓤 H A mem runs .Ghost
   to-empty = ((tt, tt, tt, tt, tt), tt)
@@ -211,9 +209,7 @@ module _ {M : Type 1} (𝓤 : URA M) (H : Heap 𝓤) (A : Atoms 𝓤) (W : Given
   to-load ν δ t = (((ν ∷ [], tt), (fullShare, tt), tt, (at-row b o ys δ, (t, tt)), (v ∷ [], (tableVals t, tt))), tt)
 
   goes-load : (ν : ℕ) (δ : GName) (t : Table) → Is T.the-row t (tableVals t) → ent 𝓤 (sep 𝓤 (A .lft (ν ∷ []) fullShare) (sem 𝓤 H A (Shr ν δ))) (Load 𝓤 H A mem runs .pre (to-load ν δ t))
-  goes-load ν δ t g =
-      qed W (‵ (flft (ν ∷ []) fullShare) ∷ ‵ (Shr ν δ) ∷ []) ∵ nothing ! $ move ! (1 ∷ 0 ∷ []) $ join ! $
-      nothing ! $ owned ! T.the-row (Is T.the-row) (tableMakes 𝓤 H A W) t (tableVals t) g $ fjoin ! $ move ! (2 ∷ 0 ∷ []) $ fjoin ! $ move ! (1 ∷ 0 ∷ []) $ join ! $ frame ! $ done !
+  goes-load ν δ t g = passes 𝓤 H A W (ν ∷ []) fullShare (Shr ν δ) (T.the-row ∷ []) (tableMakes 𝓤 H A W, tt) (t, tt) (tableVals t, tt) (g, tt)
 
   abbrev to-over : Scan → Table → Over 𝓤 H A mem runs .Ghost
   to-over s t = (((κ₁, (κ₂, (κ₃, tt))), (q₁, (q₂, (q₃, tt))), tt, (s, (t, rest)), (valsS s, (tableVals t, at-rest))), tt)
@@ -226,9 +222,7 @@ module _ {M : Type 1} (𝓤 : URA M) (H : Heap 𝓤) (A : Atoms 𝓤) (W : Given
   to-store t = (((κ, tt), (q, tt), tt, (at-row b o ys γ, (t, tt)), (v ∷ [], (tableVals t, tt))), tt)
 
   goes-store : (t : Table) → Is T.the-row t (tableVals t) → ent 𝓤 (sep 𝓤 (A .lft κ q) (sem 𝓤 H A (MutSlice (named 0) κ R .own (at-row b o ys γ) (v ∷ [])))) (Store 𝓤 H A mem runs .pre (to-store t))
-  goes-store t g =
-      qed W (‵ (flft κ q) ∷ ‵ (MutSlice (named 0) κ R .own (at-row b o ys γ) (v ∷ [])) ∷ []) ∵ nothing ! $ move ! (1 ∷ 0 ∷ []) $ join ! $
-      nothing ! $ owned ! T.the-row (Is T.the-row) (tableMakes 𝓤 H A W) t (tableVals t) g $ fjoin ! $ move ! (2 ∷ 0 ∷ []) $ fjoin ! $ move ! (1 ∷ 0 ∷ []) $ join ! $ frame ! $ done !
+  goes-store t g = passes 𝓤 H A W κ q (MutSlice (named 0) κ R .own (at-row b o ys γ) (v ∷ [])) (T.the-row ∷ []) (tableMakes 𝓤 H A W, tt) (t, tt) (tableVals t, tt) (g, tt)
 
   exits : (r : Ran) (zs : List Bay) (ws after : List ℕ) → Runs ys (queue .now) (trace .now) budget (buffer .now) r zs ws after
       → length zs ≡ length ys → length ws ≡ length (queue .now) → length after ≡ length (buffer .now) → Is Z.the-row r (valsZ r)
