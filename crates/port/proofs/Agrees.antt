@@ -1,9 +1,9 @@
 -- What the code makes of an event is what the definition says: by the ways of a step. The mask is that of the row, before and after, so its ones are the free phys and its trailing zeros the lowest.
 use Prim.Native.Nat.{ℕ, _+_, _-_, _≤_, _<_}
-use mathlib.Core.Bool.{Bool, true, false, _&&_, false≢true}
+use mathlib.Core.Bool.{true, false, _&&_, and-false, false≢true}
 use mathlib.Core.List.{List, [], _∷_, _++_}
 use mathlib.Core.Logic.{_⊎_, ⊎-elim}
-use mathlib.Core.Path.{_≡_, refl, sym, ap, subst, _∙_}
+use mathlib.Core.Path.{_≡_, sym, ap, subst, _∙_}
 use native.Mathlib.Omega.{arith}
 use borrow.Author.Tests.{lt-ltb, le-ltb, eq-eqb, ne-eqb}
 use lib.Dec.{eqb, ltb}
@@ -26,21 +26,15 @@ use Rattle.queue.proofs.Moves.{joins-last, oldest-first, moves-up}
 use Rattle.port.specs.Names.{mostPhys}
 use Rattle.port.specs.Flags.{maskOf}
 use Rattle.port.specs.State.{Port, isFree, freeOf, freePhys, allPass, validOf}
-use Rattle.port.specs.Step.{PortStepped, refused, onlyRefusal, reportsOf, openEvent, bayAt, lowestFree, received, isPorts, portStepOf}
-use Rattle.port.specs.Lent.{tells, tellsIn}
+use Rattle.port.specs.Step.{PortStepped, refused, onlyRefusal, reportsOf, openEvent, bayAt, lowestFree, received, isPorts}
+use Rattle.port.specs.Lent.{tellsIn}
 use Rattle.port.specs.Stages.{standing, standingOf, someFree, lowestIn, concerned, freeAfter, Course, noneHanded, keepsAll, receives, handOn, onMoved, onPort, takenOf}
 use Rattle.port.specs.declared.Standing.{Standing}
+use Rattle.port.specs.Laws.{Agrees, TakesAgree}
 use Rattle.port.proofs.Flags.{map-set, map-at}
 use Rattle.port.proofs.Mask.{ones-are-many, zeros-are-lowest, mask-set}
 use Rattle.port.proofs.Valid.{sound, bay-valid, then-free, then-lowest, lowest-free, none-free}
 use Rattle.port.proofs.Ways.{Judged, ToPort, ToPhy, Refuses, not-valid, not-known, not-for-port, no-phy, is-full, phys-own, Way, is-refused, joins, at-once, takes, frees, open-known, ways}
-
--- the record of an event is put, and row, queue, standing and reports are those of the definition's step
-pub record Agrees (p : Port) (at : ℕ) (c : Course) (r : PortStepped) : Type 0 where
-  pub row : set (p .bays) at (c .taken .bay) ≡ r .next .bays
-  pub queue : c .queue ≡ lentAs (r .next .queue)
-  pub stands : c .taken .standing ≡ standingOf (r .next)
-  pub says : c .taken .stepped ≡ tells r
 
 -- ---- the mask of a row
 
@@ -211,7 +205,7 @@ module _ (p : Port) (number : ℕ) (e : Event) (v : validOf mostPhys p ≡ true)
     unfolding handOn
     take-agrees y =
         let none : ltb 0 (length (p .queue)) && someFree (maskIn then) ≡ false
-        = ⊎-elim (λ z. rw (le-ltb 0 (length (p .queue)) (omega (arith, ap length z)))) (λ n. rw (some-is then ∙ le-ltb 0 (freePhys then) (omega (arith, n))) (no-second (ltb 0 (length (p .queue))))) y in
+        = ⊎-elim (λ z. rw (le-ltb 0 (length (p .queue)) (omega (arith, ap length z)))) (λ n. rw (some-is then ∙ le-ltb 0 (freePhys then) (omega (arith, n))) (and-false (ltb 0 (length (p .queue))))) y in
         let q : now ≡ record { taken = noneHanded (made .next) stood (reportsOf made); queue = lentAs (p .queue) } = goes-on ∙ rw none in
         record {
           row = (λ i. set (p .bays) (own-at (w .phys) i) (q i .taken .bay));
@@ -219,10 +213,6 @@ module _ (p : Port) (number : ℕ) (e : Event) (v : validOf mostPhys p ≡ true)
           stands = ap (λ (c : Course). c .taken .standing) q;
           says = ap (λ (c : Course). c .taken .stepped) q;
         }
-      where
-        no-second : (x : Bool) → x && false ≡ false
-        no-second true = refl
-        no-second false = refl
 
     module _ (o : Open) (os : List Open) (q : p .queue ≡ o ∷ os) (t : isFree (made .next) ≡ true) where
       abbrev got-it : BayStepped
@@ -299,6 +289,5 @@ module _ (p : Port) (number : ℕ) (e : Event) (v : validOf mostPhys p ≡ true)
   by-way k (takes w y) = take-agrees w y
   by-way k (frees o os w q t) = free-agrees w o os q t
 
-  -- an event that is known, of a valid port
-  pub agrees : knownInTrace e ≡ true → Agrees p at now (portStepOf mostPhys p number e)
-  agrees k = by-way k (ways mostPhys p number e)
+pub takes-agree : TakesAgree
+takes-agree p number e v k = by-way p number e v k (ways mostPhys p number e)

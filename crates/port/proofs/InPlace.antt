@@ -11,21 +11,23 @@ use Rattle.table.specs.Refusals.{badState, badEvent}
 use Rattle.table.proofs.Laws.{by-test, parts}
 use Rattle.event.specs.Table.{knownInTrace}
 use Rattle.event.specs.declared.Event.{Event}
+use Rattle.event.specs.declared.Open.{Open}
 use Rattle.bay.specs.State.{freshBay}
 use Rattle.bay.specs.declared.Bay.{Bay}
 use Rattle.queue.specs.Lent.{lentAs, queueIn, goodLent}
-use Rattle.queue.proofs.Lending.{good-is-lent}
+use Rattle.queue.proofs.Lending.{good-is-lent, lent-back}
 use Rattle.port.specs.Names.{mostPhys}
 use Rattle.port.specs.State.{Port, validOf}
 use Rattle.port.specs.Step.{PortStepped, refused, bayAt, portStepOf}
 use Rattle.port.specs.Lent.{portIn, lentStep, numbersAfter, tells}
 use Rattle.port.specs.Stages.{begun, scanned, soundScan, standingIn, standingOf, Course, keepsAll, concerned, takenOf, planOf, targetOf, plannedOf, queueAfter}
 use Rattle.port.specs.Contracts.{Steps}
+use Rattle.port.specs.Laws.{LentFollows, BadQueueRefused}
 use Rattle.port.specs.declared.Scan.{Scan}
-use Rattle.port.proofs.Valid.{sound}
+use Rattle.port.proofs.Valid.{sound, known-all}
 use Rattle.port.proofs.Ways.{Way, is-refused, joins, at-once, takes, frees, ways}
-use Rattle.port.proofs.Agrees.{agrees}
-use Rattle.port.proofs.Surveyed.{surveyed, sound-is, stands-so}
+use Rattle.port.proofs.Agrees.{takes-agree}
+use Rattle.port.proofs.Surveyed.{surveyed, sound-exactly, stands-so}
 
 -- ---- the numbers of a queue
 
@@ -78,7 +80,7 @@ module _ (bays : List Bay) (ns : List ℕ) (number : ℕ) (e : Event) where
 
   module _ (good : goodLent ns ≡ true) (v : validOf mostPhys (portIn bays ns) ≡ true) where
     sound-now : soundScan scan ns ≡ true
-    sound-now = sound-is bays ns ∙ rw (good, v)
+    sound-now = sound-exactly bays ns ∙ rw (good, v)
 
     as-lent : lentStep bays ns number e ≡ portStepOf mostPhys (portIn bays ns) number e
     unfolding lentStep
@@ -96,7 +98,7 @@ module _ (bays : List Bay) (ns : List ℕ) (number : ℕ) (e : Event) where
         let m = ap (λ (s : Scan). concerned (s .free) number) (surveyed bays (sound mostPhys p v .few)) in
         let c : plan ≡ takenOf (standingOf p) (bayAt bays (concerned (standingOf p .free) number)) (lentAs (p .queue)) number e
         = rw (sound-now, k) (λ i. takenOf (stands-so bays ns v i) (bayAt bays (m i)) (l i) number e) in
-        let a = agrees p number e v k in
+        let a = takes-agree p number e v k in
         record {
           says = ap (λ (x : Course). x .taken .stepped) c ∙ a .says ∙ ap tells (sym as-lent);
           row-left = (λ i. set bays (m i) (c i .taken .bay)) ∙ a .row ∙ ap (λ (r : PortStepped). r .next .bays) (sym as-lent);
@@ -108,4 +110,20 @@ module _ (bays : List Bay) (ns : List ℕ) (number : ℕ) (e : Event) where
   in-place =
       by-test (goodLent ns && validOf mostPhys (portIn bays ns))
       (λ t. let q = parts (goodLent ns) (validOf mostPhys (portIn bays ns)) t in by-test (knownInTrace e) (known-event (q .0) (q .1)) (bad-event (q .0) (q .1)))
-      (λ f. keeps-so badState (rw (sound-is bays ns ∙ f)) (bad-state f) refl)
+      (λ f. keeps-so badState (rw (sound-exactly bays ns ∙ f)) (bad-state f) refl)
+
+-- ---- the port as it is lent
+
+pub bad-queue-refused : BadQueueRefused
+unfolding lentStep
+bad-queue-refused row numbers number e f = rw f
+
+pub lent-follows : LentFollows
+unfolding lentStep
+lent-follows p number e v =
+    let s = sound mostPhys p v in
+    let b = lent-back (p .queue) (record { known = known-all (p .queue) (s .known); few = s .short }) in
+    record {
+      step = rw (b .good) (ap (λ (q : List Open). portStepOf mostPhys (record { bays = p .bays; queue = q }) number e) (b .same));
+      numbers = numbers-so p number e (lentAs (p .queue)) refl;
+    }

@@ -8,3 +8,4 @@ pub mod InPlace
 pub mod Kit
 pub mod Put
 pub mod Determined
+pub mod Tells

@@ -1,6 +1,6 @@
 -- What a survey gathers of a row: as many as there are, the mask of the free ones, and whether all are valid; past the most of them, that the row is not valid. So a survey and a queue are sound exactly where the port is valid.
 use Prim.Native.Nat.{ℕ, suc, _+_, _*_, _^_, _≤_, _<_}
-use mathlib.Core.Bool.{Bool, true, false, _&&_}
+use mathlib.Core.Bool.{Bool, true, false, _&&_, and-true, and-assoc}
 use mathlib.Core.List.{List, [], _∷_}
 use mathlib.Core.Path.{_≡_, refl, sym, ap, subst, _∙_}
 use native.Mathlib.Nat.{add-mul, mul-assoc, mul-comm, add-assoc, pow-suc, one-mul, zero-mul, zero-add, add-zero}
@@ -24,8 +24,9 @@ use Rattle.port.specs.Names.{mostPhys}
 use Rattle.port.specs.Flags.{maskOf}
 use Rattle.port.specs.State.{Port, isFree, freeOf, allPass, validQueue, noneBeside, validOf}
 use Rattle.port.specs.Lent.{portIn}
-use Rattle.port.specs.Stages.{begun, notedOf, scanned, soundScan, standingIn, standingOf}
+use Rattle.port.specs.Stages.{begun, notedOf, scanned, soundScan, standingIn}
 use Rattle.port.specs.declared.Scan.{Scan}
+use Rattle.port.specs.Laws.{SoundExactly, StandsSo}
 use Rattle.port.proofs.Mask.{ones-are-many}
 use Rattle.port.proofs.Valid.{sound}
 
@@ -50,19 +51,11 @@ below : (s : Scan) (f : Bool) → s .free < 2 ^ s .count → flagOf f * 2 ^ s .c
 below s true h = rw add-one (omega (arith, pow-suc 2 (s .count)))
 below s false h = rw add-one (omega (arith, pow-suc 2 (s .count)))
 
-and-assoc : (a b c : Bool) → (a && b) && c ≡ a && (b && c)
-and-assoc true b c = refl
-and-assoc false b c = refl
-
 -- a row that fits
 gathered : (bs : List Bay) (s : Scan) → s .count + length bs ≤ mostPhys → s .free < 2 ^ s .count
     → scanned s bs ≡ record { count = s .count + length bs; free = maskOf (freeOf bs) * 2 ^ s .count + s .free; valid = s .valid && allPass bay.validOf bs }
 unfolding scanned maskOf
 gathered [] s l h = λ i. record { count = sym (add-zero (s .count)) i; free = sym (ap (λ (x : ℕ). x + s .free) (zero-mul (2 ^ s .count)) ∙ zero-add (s .free)) i; valid = sym (and-true (s .valid)) i }
-  where
-    and-true : (a : Bool) → a && true ≡ a
-    and-true true = refl
-    and-true false = refl
 gathered (b ∷ bs) s l h =
     ap (λ (t : Scan). scanned t bs) (one-more s b (omega arith) h (isFree b) refl)
     ∙ gathered bs (next s b) (omega arith) (below s (isFree b) h)
@@ -112,7 +105,7 @@ module _ (bays : List Bay) (ns : List ℕ) where
   abbrev p : Port
   p = portIn bays ns
 
-  pub sound-is : soundScan s ns ≡ goodLent ns && validOf mostPhys p
+  sound-is : soundScan s ns ≡ goodLent ns && validOf mostPhys p
   unfolding validOf
   sound-is =
       let q = held-known ns in
@@ -135,6 +128,8 @@ module _ (bays : List Bay) (ns : List ℕ) where
       all false false true alone = refl
       all false false false alone = refl
 
-  -- and then it tells where the port stands
-  pub stands-so : validOf mostPhys p ≡ true → standingIn s ns ≡ standingOf p
-  stands-so v = ap (λ (t : Scan). standingIn t ns) (surveyed bays (sound mostPhys p v .few))
+pub sound-exactly : SoundExactly
+sound-exactly row numbers = sound-is row numbers
+
+pub stands-so : StandsSo
+stands-so row numbers v = ap (λ (t : Scan). standingIn t numbers) (surveyed row (sound mostPhys (portIn row numbers) v .few))

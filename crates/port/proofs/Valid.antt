@@ -16,6 +16,7 @@ use Rattle.bay.specs.State as bay
 use Rattle.bay.specs.State.{freshBay}
 use Rattle.bay.specs.declared.Bay.{Bay}
 use Rattle.queue.specs.Lent.{mostWaiting}
+use Rattle.queue.specs.Laws.{AllKnown}
 use Rattle.port.specs.Flags.{howMany, lowest}
 use Rattle.port.specs.State.{Port, isFree, freeOf, freePhys, allPass, validCount, validQueue, noneBeside, validOf}
 use Rattle.port.specs.Step.{bayAt, lowestFree}
@@ -34,6 +35,11 @@ pub passes-set : {A : Type 0} (test : A → Bool) (l : List A) (i : ℕ) (a : A)
 passes-set test [] i a h t = refl
 passes-set test (x ∷ rest) zero a h t = rw (t, parts (test x) (allPass test rest) h .1)
 passes-set test (x ∷ rest) (suc i) a h t = let q = parts (test x) (allPass test rest) h in rw (q .0, passes-set test rest i a (q .1) t)
+
+-- Opens that all pass are known
+pub known-all : (os : List Open) → allPass openKnown os ≡ true → AllKnown os
+known-all [] h = tt
+known-all (o ∷ os) h = let q = parts (openKnown o) (allPass openKnown os) h in (q .0, known-all os (q .1))
 
 -- the rules of a valid port, each by itself
 pub record Sound (limit : ℕ) (p : Port) : Type 0 where

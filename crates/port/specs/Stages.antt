@@ -71,7 +71,7 @@ lowestIn free = trailingZeros 64 free
 unfoldable pub concerned : (free number : ℕ) → ℕ
 concerned free number = pick (isPorts number) (lowestIn free) number
 
--- the mask once a phy was free and now is, or was not and now is not
+-- the mask once a phy was free or was not, and now is or is not
 unfoldable pub freeAfter : (free number : ℕ) → (was is : Bool) → ℕ
 freeAfter free number true true = free
 freeAfter free number true false = bitXor free (2 ^ number)

@@ -1,5 +1,5 @@
-// A port: one to eight bays, lent as one row of records, and a queue of Opens that wait for a free phy. A
-// step takes any row, any queue, any number and any event, and ends.
+// A port: bays, lent as one row of records, and a queue of Opens that wait for a free phy. A step takes any
+// row, any queue, any number and any event, and ends.
 mod row;
 mod state;
 mod taking;

@@ -1,4 +1,4 @@
-// Which ports are valid, and where one stands.
+// Which ports are valid, where one stands, and what is judged before an event is taken.
 ghost use mathlib.Core.Path.{_≡_};
 ghost use Rattle.port.specs.State.{isFree};
 ghost use Rattle.port.specs.Stages.{notedOf, targetOf};
@@ -32,7 +32,7 @@ pub fn begun() -> Scan
     }
 }
 
-// One record more; too many are noted once, and make the row invalid.
+// One record more. Past the most of them none is counted, and the row is not valid.
 pub(crate) fn noted(scan: Scan, bay: Bay) -> Scan
     ensures { λ r. ⌜ r ≡ notedOf scan bay ⌝ }
 {

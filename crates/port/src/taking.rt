@@ -25,13 +25,14 @@ use queue::MOST_WAITING;
 
 const NO_REPORT: Report = Report { code: 0, tick: 0 };
 
-// How many phys of a mask are free, and the lowest of them.
+// Whether any phy of a mask is free, by their number.
 fn some_free(free: u64) -> bool
     ensures { λ r. ⌜ r ≡ someFree free ⌝ }
 {
     0 < u64::count_ones(free)
 }
 
+// The lowest of them; where none is free, a number past every phy.
 fn lowest_in(free: u64) -> u64
     ensures { λ r. ⌜ (r ≡ lowestIn free) × (someFree free ≡ true → r < 64) ⌝ }
 {
@@ -48,7 +49,7 @@ pub fn concerned(free: u64, number: u64) -> usize
     number as usize
 }
 
-// The mask once a phy was free and is not, or was not and is.
+// The mask once a phy was free or was not, and now is or is not.
 fn free_after(free: u64, number: u64, was: bool, is: bool) -> u64
     requires { ⌜ number < 64 ⌝ }
     ensures { λ r. ⌜ r ≡ freeAfter free number was is ⌝ }

@@ -15,7 +15,6 @@ use Rattle.event.specs.Table.{knownInTrace}
 use Rattle.event.specs.declared.Event.{Event}
 use Rattle.event.specs.declared.ShelfEvent.{ShelfEvent}
 use Rattle.bay.specs.State.{freshBay}
-use Rattle.bay.specs.Step as bay
 use Rattle.bay.specs.declared.Bay.{Bay}
 use Rattle.bay_laws.proofs.Bytes.{are-bytes}
 use Rattle.queue.specs.Lent.{lentAs}
@@ -33,7 +32,8 @@ use Rattle.port.specs.declared.Stepped.{Stepped}
 use Rattle.port.specs.declared.Reports.{Reports}
 use Rattle.port.proofs.Valid.{sound}
 use Rattle.port.proofs.Ways.{Refuses, not-valid, not-known, not-for-port, no-phy, is-full, phys-own, Way, is-refused, joins, at-once, takes, frees, ways}
-use Rattle.port.proofs.Agrees.{Agrees, agrees}
+use Rattle.port.specs.Laws.{Agrees}
+use Rattle.port.proofs.Agrees.{takes-agree}
 use Rattle.port_laws.proofs.Steps.{stays-valid}
 use Rattle.shelf_run.specs.Running.{Course, onwards, taking, byteOf, bytesOf}
 use Rattle.shelf_run.specs.Stages as stages
@@ -99,7 +99,7 @@ module _ (p : Port) (rest : List Bay) (v : validOf mostPhys p ≡ true) where
     r = stepOn mostPhys p e
 
     a : Agrees p at c r
-    a = agrees p (e .number) (e .event) v k
+    a = takes-agree p (e .number) (e .event) v k
 
     goes-so : (go : Standing → List Bay → List ℕ → Went)
         → goesOn go (standingOf p) (p .bays ++ rest) at (stages.takes (standingOf p) (p .bays ++ rest) (lentAs (p .queue)) e at)

@@ -25,7 +25,7 @@ use Rattle.port.specs.Lent.{portIn}
 use Rattle.port.specs.Stages.{begun, scanned, standing, standingIn, standingOf}
 use Rattle.port.specs.declared.Scan.{Scan}
 use Rattle.port.proofs.Valid.{sound, sound-valid}
-use Rattle.port.proofs.Surveyed.{sound-is, stands-so}
+use Rattle.port.proofs.Surveyed.{sound-exactly, stands-so}
 use Rattle.port_laws.proofs.EachPhy.{after-count}
 use Rattle.shelf_run.specs.Rows.{fitting, loaded, stored}
 use Rattle.shelf_run.specs.Running.{taking, bytesOf, unset, started, soundLent, taken, ran}
@@ -125,10 +125,10 @@ module _ (row : List Bay) (ns s : List ℕ) (budget : ℕ) (before : List ℕ) w
   Made = Runs row ns s budget before (g .ran) (stored row (g .table .bays)) (queueAfterRun scan table ns s budget before) (bufferAfterRun scan table ns s budget before)
 
   bad-state : soundLent row ns ≡ false → Made
-  bad-state f = record { says = rw (sound-is row ns, f) refl; row-left = rw (sound-is row ns, f) (put-back row (empty .bays)); queue-left = rw (sound-is row ns, f) refl; buffer-left = rw (sound-is row ns, f) refl }
+  bad-state f = record { says = rw (sound-exactly row ns, f) refl; row-left = rw (sound-exactly row ns, f) (put-back row (empty .bays)); queue-left = rw (sound-exactly row ns, f) refl; buffer-left = rw (sound-exactly row ns, f) refl }
 
   no-room : soundLent row ns ≡ true → leb budget (length before) ≡ false → Made
-  no-room t r = record { says = rw (sound-is row ns, t, r) refl; row-left = rw (sound-is row ns, t, r) (put-back row (empty .bays)); queue-left = rw (sound-is row ns, t, r) refl; buffer-left = rw (sound-is row ns, t, r) refl }
+  no-room t r = record { says = rw (sound-exactly row ns, t, r) refl; row-left = rw (sound-exactly row ns, t, r) (put-back row (empty .bays)); queue-left = rw (sound-exactly row ns, t, r) refl; buffer-left = rw (sound-exactly row ns, t, r) refl }
 
   module _ (good : goodLent ns ≡ true) (v : validOf mostPhys p ≡ true) where
     few : length row ≤ mostPhys
@@ -150,10 +150,10 @@ module _ (row : List Bay) (ns s : List ℕ) (budget : ℕ) (before : List ℕ) w
         let t : soundLent row ns ≡ true = rw (good, v) refl in
         let n : length (after mostPhys (started p) (taken s budget) .bays) ≡ length row = after-count mostPhys (taken s budget) (started p) ∙ length-map row unset in
         record {
-          says = rw (sound-is row ns, t, r) (ap (λ (w : Went). ran (length (w .bytes)) (w .halt)) went ∙ ap (λ (k : ℕ). ran k (taking budget s 0 .halt)) (counted (started p) (taken s budget)));
-          row-left = rw (sound-is row ns, t, r) (ap (λ (w : Went). stored row (w .bays)) went ∙ comes-back row few (after mostPhys (started p) (taken s budget) .bays) (map unset (others row few)) n);
-          queue-left = rw (sound-is row ns, t, r) (ap (λ (w : Went). w .queue) went);
-          buffer-left = rw (sound-is row ns, t, r) (ap (λ (w : Went). sets before 0 (w .bytes)) went);
+          says = rw (sound-exactly row ns, t, r) (ap (λ (w : Went). ran (length (w .bytes)) (w .halt)) went ∙ ap (λ (k : ℕ). ran k (taking budget s 0 .halt)) (counted (started p) (taken s budget)));
+          row-left = rw (sound-exactly row ns, t, r) (ap (λ (w : Went). stored row (w .bays)) went ∙ comes-back row few (after mostPhys (started p) (taken s budget) .bays) (map unset (others row few)) n);
+          queue-left = rw (sound-exactly row ns, t, r) (ap (λ (w : Went). w .queue) went);
+          buffer-left = rw (sound-exactly row ns, t, r) (ap (λ (w : Went). sets before 0 (w .bytes)) went);
         }
 
   pub in-place : Made

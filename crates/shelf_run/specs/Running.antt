@@ -58,7 +58,7 @@ bytesIn (x ∷ xs) = byteOf (x .result) ∷ bytesIn xs
 abbrev pub bytesOf : Port → List ShelfEvent → List ℕ
 bytesOf p es = bytesIn (log mostPhys p es)
 
--- every base unset
+-- a bay with its base unset
 abbrev pub unset : Bay → Bay
 unset b = unstamped (b .phy)
 
