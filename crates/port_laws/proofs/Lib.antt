@@ -9,3 +9,7 @@ pub mod EachPhy
 pub mod InTime
 pub mod Shelf
 pub mod HandOuts
+pub mod Reporting
+pub mod Rules
+pub mod Freed
+pub mod Examples

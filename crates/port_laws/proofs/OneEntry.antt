@@ -32,7 +32,7 @@ use Rattle.port.proofs.Ways.{Way, is-refused, joins, at-once, takes, frees, ope
 use Rattle.port_laws.specs.Laws.{requestsTo}
 use Rattle.port_laws.specs.EachPhy.{isTo, cameTo, acceptedIn, answeredIn, entryOf}
 use Rattle.port_laws.proofs.Steps.{its-open-known, oldest-known}
-use Rattle.port_laws.proofs.Refusals.{reports-are-phys}
+use Rattle.port_laws.proofs.Refusals.{as-the-bay}
 
 -- a bay, events of its own and Opens handed out to it: where they lead, and that the bay takes these Opens in silence
 pub record Came (b : Bay) (own : List Event) (os : List Open) (next : Bay) : Type 0 where
@@ -133,7 +133,7 @@ module _ (limit : ℕ) (p : Port) (i : ℕ) (e : ShelfEvent) (v : validOf limit 
     there = omega (arith, number-is, l)
 
     as-own : r .reports ≡ reportsOf (stepOf (bayAt (p .bays) (e .number)) (e .event))
-    as-own = reports-are-phys limit p (e .number) (e .event) v (eqb-false (e .number) thePort no-port) there
+    as-own = as-the-bay limit p (e .number) (e .event) v (eqb-false (e .number) thePort no-port) there
 
     pub own-reports : r .reports ≡ reportsOf (stepOf b (e .event))
     own-reports = as-own ∙ ap (λ (j : ℕ). reportsOf (stepOf (bayAt (p .bays) j) (e .event))) number-is

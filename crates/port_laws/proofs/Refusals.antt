@@ -48,9 +48,10 @@ only-opens limit p e v n = simp (v, ne-eqb (e .code) txOpen n, and-false)
 
 -- ---- what a phy reports
 
-pub reports-are-phys : ReportsArePhys
+pub as-the-bay : (limit : ℕ) (p : Port) (number : ℕ) (e : Event) → validOf limit p ≡ true → (number ≡ thePort → ⊥) → number < length (p .bays)
+    → portStepOf limit p number e .reports ≡ reportsOf (bay.stepOf (bayAt (p .bays) number) e)
 unfolding portStepOf toPhy
-reports-are-phys limit p number e v n l =
+as-the-bay limit p number e v n l =
     let b = bayAt (p .bays) number in
     let r = bay.stepOf b e in
     by-test (knownInTrace e)
@@ -58,6 +59,18 @@ reports-are-phys limit p number e v n l =
     (by-pick (λ (s : PortStepped). s .reports ≡ reportsOf r) (eqb (r .refusal) 0) (λ _. refl)
     (λ f. sym (ap reportsOf (bayRefusals.refused-keeps b e (eqb-false (r .refusal) 0 f))))))
     (λ k. ap (λ (s : PortStepped). s .reports) (unknown-first limit p number e v k) ∙ sym (ap reportsOf (not-known b e (bay-valid limit p v number l) k)))
+
+pub reports-are-phys : ReportsArePhys
+reports-are-phys limit p number e v n l =
+    let q = as-the-bay limit p number e v n l in
+    record {
+      answered = ap (λ (r : Reports). r .answered) q;
+      answer = ap (λ (r : Reports). r .answer) q;
+      notice = ap (λ (r : Reports). r .notice) q;
+      second-notice = ap (λ (r : Reports). r .secondNotice) q;
+      sent = ap (λ (r : Reports). r .sent) q;
+      refusal = ap (λ (r : Reports). r .refusal) q;
+    }
 
 -- ---- what each number says
 
@@ -95,7 +108,7 @@ module _ (limit : ℕ) (p : Port) (number : ℕ) (e : Event) where
 
   -- to a phy that is there, the refusal is its bay's
   pub own : AtPhy limit p number e → refusalOf limit p number e ≡ bay.stepOf (bayAt (p .bays) number) e .refusal
-  own a = ap (λ (r : Reports). r .refusal) (reports-are-phys limit p number e (a .judged .valid) (a .phys) (a .there))
+  own a = ap (λ (r : Reports). r .refusal) (as-the-bay limit p number e (a .judged .valid) (a .phys) (a .there))
 
   bay-judged : AtPhy limit p number e → bayLaws.Judged (bayAt (p .bays) number) e
   bay-judged a = record { valid = bay-valid limit p (a .judged .valid) number (a .there); known = a .judged .known }

@@ -1,6 +1,6 @@
 -- What holds of every step of a port, of any limit of phys, and after every list of shelf events. A heading names the
 -- file of proofs/.
-use Prim.Native.Nat.{ℕ, _≤_, _<_}
+use Prim.Native.Nat.{ℕ, _-_, _^_, _≤_, _<_}
 use mathlib.Core.Bool.{true, false}
 use mathlib.Core.List.{List, [], _∷_, _++_}
 use mathlib.Core.Logic.{_↔_, _⊎_}
@@ -12,19 +12,30 @@ use Rattle.table.specs.Flags.{on}
 use Rattle.table.specs.Refusals.{badState, badEvent, busy, nothingPending, notConnected, wrongProtocol, queueFull}
 use Rattle.table.specs.Refusals.{noSuchPhy}
 use Rattle.event.specs.Names.{SMP, txOpen, cancelOpen, closeConnection, smpTransmitBreak}
-use Rattle.event.specs.Table.{knownInTrace}
+use Rattle.event.specs.Table.{knownOf, knownInTrace, openOf, stampOf}
 use Rattle.event.specs.declared.Event.{Event}
 use Rattle.event.specs.declared.Open.{Open}
 use Rattle.event.specs.declared.ShelfEvent.{ShelfEvent}
-use Rattle.phy.specs.Names.{L1, L3, P1, P2, fullTimer, sentOpen}
+use Rattle.phy.specs.Names.{L0, L1, L3, P1, P2, fullTimer, sentOpen}
+use Rattle.phy.specs.Shapes.{noOpen}
 use Rattle.phy.specs.declared.Phy.{Phy}
 use Rattle.phy_laws.specs.Laws.{Free}
+use Rattle.ledger.specs.Demand.{plain}
+use Rattle.bay.specs.State as bayState
+use Rattle.bay.specs.Gap.{report}
 use Rattle.bay.specs.Step as bay
+use Rattle.bay.specs.declared.Stepped.{Stepped as BayStepped}
 use Rattle.queue.specs.Lent.{mostWaiting}
+use Rattle.queue.specs.Laws.{AllKnown}
 use Rattle.port.specs.Names.{thePort}
 use Rattle.port.specs.State.{Port, isFree, freePhys, validOf, freshPort}
-use Rattle.port.specs.Step.{HandOut, PortStepped, refused, reportsOf, bayAt, portStepOf}
+use Rattle.port.specs.Step.{HandOut, PortStepped, refused, bayAt, portStepOf}
+use Rattle.port.specs.declared.Reports.{Reports}
 use Rattle.port.specs.Log.{after}
+
+-- the phy with a number
+abbrev pub phyAt : Port → (number : ℕ) → Phy
+phyAt p number = bayAt (p .bays) number .phy
 
 -- ---- validity (proofs/Steps)
 
@@ -37,6 +48,25 @@ abbrev pub StaysValid : Type 0
 StaysValid =
     (limit : ℕ) (p : Port) (number : ℕ) (e : Event) → validOf limit p ≡ true
     → validOf limit (portStepOf limit p number e .next) ≡ true
+
+-- ---- which ports are valid, in the paper's words (proofs/Rules)
+
+-- a phy in P1 with L0
+abbrev pub Idle : Phy → Type 0
+Idle p = (p .link ≡ L0) × (p .port ≡ P1)
+
+-- one phy at least and no more than the limit, each valid; at most 32 Opens, each known; none beside an idle phy
+pub record Rules (limit : ℕ) (p : Port) : Type 0 where
+  pub some : 1 ≤ length (p .bays)
+  pub few : length (p .bays) ≤ limit
+  pub bays : (i : ℕ) → i < length (p .bays) → bayState.validOf (bayAt (p .bays) i) ≡ true
+  pub short : length (p .queue) ≤ 32
+  pub known : AllKnown (p .queue)
+  pub alone : (p .queue ≡ []) ⊎ ((i : ℕ) → i < length (p .bays) → Idle (phyAt p i) → ⊥)
+
+-- valid is what these rules say
+abbrev pub ValidExactly : Type 0
+ValidExactly = (limit : ℕ) (p : Port) → validOf limit p ≡ true ↔ Rules limit p
 
 -- ---- refused, nothing changes (proofs/Steps)
 
@@ -68,10 +98,6 @@ pub record AtPhy (limit : ℕ) (p : Port) (number : ℕ) (e : Event) : Type 0 wh
   pub judged : Judged limit p e
   pub phys : number ≡ thePort → ⊥
   pub there : number < length (p .bays)
-
--- that phy
-abbrev pub phyAt : Port → (number : ℕ) → Phy
-phyAt p number = bayAt (p .bays) number .phy
 
 -- 1: the port is not valid
 abbrev pub BadStateExactly : Type 0
@@ -167,16 +193,53 @@ OnlyOpens =
     (limit : ℕ) (p : Port) (e : Event) → validOf limit p ≡ true → (e .code ≡ txOpen → ⊥)
     → portStepOf limit p thePort e ≡ refused p badEvent
 
--- ---- what a phy reports (proofs/Refusals)
+-- ---- the request's own examples (proofs/Examples)
 
--- an event to a phy of a valid port reports what that phy's bay reports, and is refused where the bay refuses it
+-- of a valid port of fewer than 127 phys: an unknown event to 200 is 2; a Cancel to 200, to 126 and to 2^64 - 1 is 12,
+-- and to 127 it is 2, as a stamp is; where 32 wait a Tx Open to 127 is 11, and where 31 do it is taken
+pub record AsRequested (limit : ℕ) (p : Port) : Type 0 where
+  pub unknown-to-200 : (e : Event) → knownInTrace e ≡ false → refusalOf limit p 200 e ≡ 2
+  pub cancel-to-200 : refusalOf limit p 200 (plain cancelOpen) ≡ 12
+  pub cancel-to-126 : refusalOf limit p 126 (plain cancelOpen) ≡ 12
+  pub cancel-to-the-last : refusalOf limit p (2 ^ 64 - 1) (plain cancelOpen) ≡ 12
+  pub cancel-to-127 : refusalOf limit p 127 (plain cancelOpen) ≡ 2
+  pub stamp-to-127 : (counter : ℕ) → refusalOf limit p 127 (stampOf counter) ≡ 2
+  pub full-at-32 : (e : Event) → knownOf e ≡ true → e .code ≡ 1 → length (p .queue) ≡ 32 → refusalOf limit p 127 e ≡ 11
+  pub room-at-31 : (e : Event) → knownOf e ≡ true → e .code ≡ 1 → length (p .queue) ≡ 31 → refusalOf limit p 127 e ≡ 0
+
+abbrev pub Examples : Type 0
+Examples = (limit : ℕ) (p : Port) → validOf limit p ≡ true → length (p .bays) < 127 → AsRequested limit p
+
+-- ---- what a phy reports (proofs/Refusals, proofs/Reporting)
+
+-- each report of an event to a phy is that of its bay, with its tick
+pub record Same (r : Reports) (b : BayStepped) : Type 0 where
+  pub answered : r .answered ≡ b .answered
+  pub answer : r .answer ≡ b .answer
+  pub notice : r .notice ≡ b .notice
+  pub second-notice : r .secondNotice ≡ b .secondNotice
+  pub sent : r .sent ≡ b .sent
+  pub refusal : r .refusal ≡ b .refusal
+
+-- so it is with every event to a phy of a valid port, refused where the bay refuses it
 abbrev pub ReportsArePhys : Type 0
 ReportsArePhys =
     (limit : ℕ) (p : Port) (number : ℕ) (e : Event)
     → validOf limit p ≡ true → (number ≡ thePort → ⊥) → number < length (p .bays)
-    → portStepOf limit p number e .reports ≡ reportsOf (bay.stepOf (bayAt (p .bays) number) e)
+    → Same (portStepOf limit p number e .reports) (bay.stepOf (bayAt (p .bays) number) e)
 
--- ---- hand-outs (proofs/Steps, proofs/HandOuts)
+-- an event to the port itself reports nothing but its refusal
+pub record Nothing (r : Reports) : Type 0 where
+  pub answered : r .answered ≡ noOpen
+  pub answer : r .answer ≡ report 0 0
+  pub notice : r .notice ≡ report 0 0
+  pub second-notice : r .secondNotice ≡ report 0 0
+  pub sent : r .sent ≡ report 0 0
+
+abbrev pub PortReportsNothing : Type 0
+PortReportsNothing = (limit : ℕ) (p : Port) (e : Event) → Nothing (portStepOf limit p thePort e .reports)
+
+-- ---- hand-outs (proofs/Steps, proofs/HandOuts, proofs/Freed)
 
 -- an event hands out one Open at most, whatever the port, the number and the event
 abbrev pub AtMostOne : Type 0
@@ -197,6 +260,21 @@ abbrev pub HandOutsSend : Type 0
 HandOutsSend =
     (limit : ℕ) (p : Port) (number : ℕ) (e : Event) (h : HandOut) → portStepOf limit p number e .handOuts ≡ h ∷ []
     → Sends p (portStepOf limit p number e) h
+
+-- where an Open waits and an event leaves its phy idle, Phy Disabled too, that phy gets the oldest in that same event
+abbrev pub FreedReceives : Type 0
+FreedReceives =
+    (limit : ℕ) (p : Port) (number : ℕ) (e : Event) (o : Open) (os : List Open)
+    → AtPhy limit p number e → p .queue ≡ o ∷ os → bay.stepOf (bayAt (p .bays) number) e .refusal ≡ 0
+    → Idle (bay.stepOf (bayAt (p .bays) number) e .next .phy)
+    → portStepOf limit p number e .handOuts ≡ record { phy = number; request = o; sent = sentOpen } ∷ []
+
+-- a Tx Open to the port goes at once to the lowest idle phy, where there is one
+abbrev pub IdleReceives : Type 0
+IdleReceives =
+    (limit : ℕ) (p : Port) (e : Event) (i : ℕ) → AtPort limit p thePort e → i < length (p .bays) → Idle (phyAt p i)
+    → ((j : ℕ) → j < i → Idle (phyAt p j) → ⊥)
+    → portStepOf limit p thePort e .handOuts ≡ record { phy = i; request = openOf e; sent = sentOpen } ∷ []
 
 -- the Opens that hand-outs give to the phy i
 abbrev pub requestsTo : (i : ℕ) → List HandOut → List Open
@@ -241,13 +319,19 @@ StampsMoveOne =
     (limit : ℕ) (p : Port) (number : ℕ) (e : Event) → AtPhy limit p number e → bay.isStamp e ≡ true
     → StampsIt limit p number e
 
--- ---- after every list of shelf events (proofs/NoneBeside)
+-- ---- after every list of shelf events (proofs/NoneBeside, proofs/Rules)
 
 -- no Open waits beside a free phy
 abbrev pub NoneBeside : Type 0
 NoneBeside =
     (limit n : ℕ) (es : List ShelfEvent)
     → (after limit (freshPort n) es .queue ≡ []) ⊎ (freePhys (after limit (freshPort n) es .bays) ≡ 0)
+
+-- so beside a phy in P1 with L0 none does
+abbrev pub IdleNoneWaits : Type 0
+IdleNoneWaits =
+    (limit n : ℕ) (es : List ShelfEvent) (j : ℕ) → j < n → Idle (phyAt (after limit (freshPort n) es) j)
+    → after limit (freshPort n) es .queue ≡ []
 
 -- a fresh port of no phy, or of more than the limit, refuses every event with 1, and so stays as it is
 pub record Refuses (limit n : ℕ) : Type 0 where
