@@ -9,3 +9,4 @@ pub mod Kit
 pub mod Put
 pub mod Determined
 pub mod Tells
+pub mod Arrays
