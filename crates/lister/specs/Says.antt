@@ -7,9 +7,9 @@ use mathlib.Core.Path.{_≡_}
 use lib.Dec.{eqb}
 use Rattle.table.specs.Choice.{pick}
 use Rattle.output.specs.Writing.{lost}
-use Rattle.listing.specs.Listing.{mostTrace, startOf}
-use Rattle.listing.specs.Laws.{Lines}
-use Rattle.listing.specs.declared.Progress.{Progress}
+use Rattle.lines.specs.Listing.{mostTrace, Listable, startOf}
+use Rattle.lines.specs.Laws.{Lines}
+use Rattle.lines.specs.declared.Progress.{Progress}
 use Rattle.lister.specs.declared.Input.{Input}
 use Rattle.lister.specs.declared.Input.the-variants.{Length, Unread as unread}
 use Rattle.lister.specs.declared.Outcome.{Outcome}
@@ -24,14 +24,16 @@ Measures kept unread = Unit
 abbrev pub endingOf : (whole : Bool) (n : ℕ) → Outcome
 endingOf whole n = pick (eqb n lost) Unwritten (pick whole Whole Damaged)
 
--- the lines of a trace from a progress on end with an outcome
-pub record Ends (s : List ℕ) (progress : Progress) (whole : Bool) : Type 0 where
-  pub bytes : List ℕ
-  pub lines : Lines s progress whole bytes
+-- the lines of a trace from a progress and a state on end with an outcome
+pub record Ends {S E : Type 0} (m : Listable S E) (s : List ℕ) (progress : Progress) (b : S) (whole : Bool) : Type 0
+  where
+    pub bytes : List ℕ
+    pub lines : Lines m s progress b whole bytes
 
--- `list` of a trace s, of an input that is `total` bytes long: whole or not, as its lines end, if all was written
-abbrev pub ListsTo : (s : List ℕ) (total : ℕ) → Outcome → Type 0
-ListsTo s total Whole = Ends s (startOf total) true
-ListsTo s total Damaged = Ends s (startOf total) false
-ListsTo s total Unwritten = Unit
-ListsTo s total Unread = ⊥
+-- the listing of a trace s, of an input that is `total` bytes long, from a state on: whole or not, as its lines end, if
+-- all was written
+abbrev pub ListsTo : {S E : Type 0} → Listable S E → S → (s : List ℕ) → (total : ℕ) → Outcome → Type 0
+ListsTo m b s total Whole = Ends m s (startOf total) b true
+ListsTo m b s total Damaged = Ends m s (startOf total) b false
+ListsTo m b s total Unwritten = Unit
+ListsTo m b s total Unread = ⊥

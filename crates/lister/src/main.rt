@@ -2,8 +2,10 @@
 // in crate `listing`; here they are gathered and written out.
 ghost use mathlib.Core.Path.{_≡_};
 ghost use lib.ListN.{length};
+ghost use Rattle.bay.specs.State.{freshBay};
+ghost use Rattle.listing.specs.Listing.{ofPhy};
 ghost use Rattle.lister.specs.Says.{Measures, endingOf, ListsTo};
-use listing::LineWritten;
+use lines::LineWritten;
 use output::LOST;
 use output::write_out;
 
@@ -35,9 +37,9 @@ fn total(kept: usize) -> Input
     if got == 0 {
         return Input::Length(kept);
     }
-    if kept == listing::MOST_TRACE {
+    if kept == lines::MOST_TRACE {
         if got > 0 {
-            return Input::Length(listing::MOST_TRACE + 1);
+            return Input::Length(lines::MOST_TRACE + 1);
         }
     }
     os::fail(b"the trace cannot be read");
@@ -61,12 +63,16 @@ fn ending(whole: bool, n: usize) -> Outcome
 // `out`, which is written when it has no room for the next one. Where a write fails the listing stops.
 fn list(trace: &[u8], total: usize, out: &mut [u8]) -> Outcome
     requires { ⌜ 65536 ≡ length (now out) ⌝ }
-    ensures { λ r. ⌜ ListsTo (now (trace .entry)) total r ⌝ }
+    ensures { λ r. ⌜ ListsTo ofPhy freshBay (now (trace .entry)) total r ⌝ }
 {
-    let mut progress = listing::start(total);
+    let mut progress = lines::start(total);
+    let mut bay = bay::fresh();
     let mut n = 0;
     loop {
-        match listing::next_line(trace, progress, out, n) {
+        let listed = listing::next_line(trace, progress, bay, out, n);
+        let written = listed.written;
+        bay = listed.bay;
+        match written {
             LineWritten::Line { next, length } => {
                 progress = next;
                 n += length;

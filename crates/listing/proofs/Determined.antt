@@ -1,31 +1,12 @@
--- Each result says one thing, so a contract that gives what is said gives the result.
-use mathlib.Core.Path.{_≡_, refl}
-use Rattle.table.specs.Results.{TellsOnce}
-use Rattle.table.proofs.Results.{leads-back, by-equation, by-result-lent}
-use Rattle.listing.specs.Contracts.{ToldWritten, wrote, finished, refused, tellsWritten}
+-- What comes next determines bay, result and buffer.
+use mathlib.Core.Path.{_≡_}
+use Rattle.lines.specs.Listing.{lineAt}
+use Rattle.lines.proofs.Determined.{next-determined}
+use Rattle.listing.specs.Listing.{ofPhy}
 use Rattle.listing.specs.Laws.{Determined}
-use Rattle.listing.specs.declared.LineWritten.{LineWritten}
-use Rattle.listing.specs.declared.LineWritten.the-variants.{Line, Done, NoRoom}
-
--- what is said tells which result said it
-answer : ToldWritten → LineWritten
-answer (wrote next n) = Line next n
-answer (finished whole) = Done whole
-answer (refused n) = NoRoom
-
-answers : (r : LineWritten) → answer (tellsWritten r) ≡ r
-unfolding answer
-answers (Line next n) = refl
-answers (Done whole) = refl
-answers NoRoom = refl
-
-written-once : TellsOnce tellsWritten
-written-once = leads-back answer answers
+use Rattle.listing.specs.declared.Listed.{Listed}
 
 pub determined : Determined
-determined =
-    record {
-      written-once = written-once;
-      start = λ length. by-equation _;
-      next-line = λ s progress before at. by-result-lent written-once (λ r after a. record { says = a .says; leaves = a .bytes });
-    }
+determined s progress b before at r q after later x y =
+    let same = next-determined (lineAt ofPhy s progress b) b before at (r .bay) (q .bay) (r .written) (q .written) after later x y in
+    (λ i. record { bay = same .0 i; written = same .1 i }, same .2)

@@ -2,21 +2,25 @@
 ghost use Rattle.casefile.specs.Contracts.{EndsWithin};
 use casefile::Place;
 use casefile::put_pieces;
-use listing::LineWritten;
+use lines::LineWritten;
 use output::GATHERED;
 use output::write_out;
 
 // How long a trace is of which this much was kept.
 fn total(kept: usize, whole: bool) -> usize {
-    if whole { kept } else { listing::MOST_TRACE + 1 }
+    if whole { kept } else { lines::MOST_TRACE + 1 }
 }
 
 // The lines of a trace that is `total` bytes long.
 fn put_listing(trace: &[u8], total: usize, out: &mut [u8], n: usize) -> usize {
-    let mut progress = listing::start(total);
+    let mut progress = lines::start(total);
+    let mut bay = bay::fresh();
     let mut end = n;
     loop {
-        match listing::next_line(trace, progress, out, end) {
+        let listed = listing::next_line(trace, progress, bay, out, end);
+        let written = listed.written;
+        bay = listed.bay;
+        match written {
             LineWritten::Line { next, length } => {
                 progress = next;
                 end = write_out(out, end + length, GATHERED);

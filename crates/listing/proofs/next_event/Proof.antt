@@ -3,6 +3,7 @@ use mathlib.Core.Path.{_≡_, sym, ap, _∙_}
 use borrow.Author.Needs.{needs}
 use Rattle.trace.specs.Reading.{readEvent, tells}
 use Rattle.trace.specs.declared.EventRead.{EventRead}
+use Rattle.lines.proofs.Moves.{moves-on, stays}
 use Rattle.listing.proofs.next_event.Statement.{statement}
 use Rattle.listing.proofs.next_event.Tie as tie
 
@@ -12,27 +13,26 @@ read c e = sym (c .event-at .ensures) ∙ ap tells e
 
 returns : tie.Need-returns
 returns c =
-    let asked = c .before .before .before .before in
-    rw (read (asked .before .before .before .before .before .before .before) (asked .before .before .before .before .before .event .given .1), ← asked .before .before .before .step .ensures)
-    (rw (asked .before .wrapping-add-u64 .ensures, asked .columns .ensures) at (c .before .before .put-event .ensures))
+    rw (read ((c .before .before .before .before .before .before .before .before .before .before .before)) (c .before .before .before .before .before .before .before .before .before .event .given .1), ← c .before .before .before .before .before .before .before .step .ensures, c .bay-after .ensures)
+    (moves-on _ _ _ _ _ _ _ _ (rw (c .before .before .before .before .before .before .wrapping-add-u64 .ensures, c .before .before .before .before .before .columns-of .ensures) at (c .before .before .before .put-event .ensures)))
 
 returns-2 : tie.Need-returns-2
-returns-2 c = rw (read (c .before .before .before .before .before .before .before .before) (c .before .before .before .before .before .before .enum-told .given .1)) (c .before .before .put-last .ensures)
+returns-2 c = rw (read ((c .before .before .before .before .before .before)) (c .before .before .before .before .enum-told .given .1)) (stays _ _ _ _ _ _ _ (c .before .before .put-end .ensures))
 
 returns-3 : tie.Need-returns-3
-returns-3 c = rw (read (c .before .before .before .before .before .before .before) (c .before .before .before .before .before .first .given .1)) (c .before .before .put-stop .ensures)
+returns-3 c = rw (read ((c .before .before .before .before .before .before .before)) (c .before .before .before .before .before .first .given .1)) (stays _ _ _ _ _ _ _ (c .before .before .put-stop .ensures))
 
 returns-4 : tie.Need-returns-4
-returns-4 c = rw (read (c .before .before .before .before .before .before .before) (c .before .before .before .before .before .first2 .given .1)) (c .before .before .put-stop2 .ensures)
+returns-4 c = rw (read ((c .before .before .before .before .before .before .before)) (c .before .before .before .before .before .first2 .given .1)) (stays _ _ _ _ _ _ _ (c .before .before .put-stop2 .ensures))
 
 returns-5 : tie.Need-returns-5
-returns-5 c = rw (read (c .before .before .before .before .before .before .before) (c .before .before .before .before .before .first3 .given .1)) (c .before .before .put-stop3 .ensures)
+returns-5 c = rw (read ((c .before .before .before .before .before .before .before)) (c .before .before .before .before .before .first3 .given .1)) (stays _ _ _ _ _ _ _ (c .before .before .put-stop3 .ensures))
 
 pub next-event-spec : {M : Type 1} → statement M
 next-event-spec =
     tie.close
     (tie.spec
-    (λ _ _. tt) (λ c. search needs) (λ _ _. tt) (λ _ _. tt) (λ _ _. tt) (λ _ _. tt) (λ c. search needs) (λ c. search needs)
-    (λ c. search needs) (λ c κs. search needs) (λ c. search needs) (λ _ _. tt) (λ c. search needs) (λ _ _. tt)
-    (λ c. search needs) (λ _ _. tt) (λ c. search needs) returns (λ c. search needs) returns-2 (λ c. search needs)
-    returns-3 (λ c. search needs) returns-4 (λ c. search needs) returns-5)
+    (λ _ _. tt) (λ c. search needs) (λ _ _. tt) (λ _ _. tt) (λ _ _. tt) (λ _ _. tt) (λ _ _. tt) (λ c. search needs)
+    (λ _ _. tt) (λ c. search needs) (λ _ _. tt) (λ c. search needs) (λ _ _. tt) (λ c. search needs) (λ _ _. tt)
+    (λ c. search needs) returns (λ c. search needs) returns-2 (λ c. search needs) returns-3 (λ c. search needs)
+    returns-4 (λ c. search needs) returns-5)

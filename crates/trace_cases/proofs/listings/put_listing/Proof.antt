@@ -3,25 +3,30 @@ use borrow.Author.Needs.{needs}
 use native.Mathlib.Omega.{arith}
 use mathlib.Core.Path.{_≡_, ap}
 use lib.ListN.{length}
-use Rattle.listing.specs.Laws.{linesLeft}
-use Rattle.listing.specs.Contracts.{tellsWritten}
-use Rattle.listing.proofs.Ends.{written-advances}
+use Rattle.lines.specs.Laws.{linesLeft}
+use Rattle.lines.specs.Contracts.{tellsWritten}
+use Rattle.lines.proofs.Ends.{written-advances}
+use Rattle.listing.specs.Listing.{ofPhy}
+use Rattle.listing.proofs.Whole.{reads-on}
 use Rattle.trace_cases.proofs.listings.put_listing.Statement.{statement}
 use Rattle.trace_cases.proofs.listings.put_listing.Tie as tie
 
 abbrev Inv-loop : tie.InvT-loop
-Inv-loop trace total out₀ n progress₀ end₀ out progress end = length out ≡ length out₀
+Inv-loop trace total out₀ n progress₀ bay₀ end₀ out progress bay end = length out ≡ length out₀
 
 abbrev μ-loop : tie.MeasureT-loop
-μ-loop trace total out₀ n progress₀ end₀ out progress end = linesLeft trace progress
+μ-loop trace total out₀ n progress₀ bay₀ end₀ out progress bay end = linesLeft trace progress
+
+add-write-out : tie.Need-add-write-out Inv-loop μ-loop
+add-write-out c = omega (arith, written-advances ofPhy reads-on _ _ _ _ _ _ _ _ _ _ (c .before .before .before .before .before .before .before .next-line .ensures) (ap tellsWritten (c .before .before .written .given .1)) .within)
+
+loop-less : tie.Need-loop-less Inv-loop μ-loop
+loop-less c = written-advances ofPhy reads-on _ _ _ _ _ _ _ _ _ _ (c .before .before .before .before .before .before .before .before .next-line .ensures) (ap tellsWritten (c .before .before .before .written .given .1)) .fewer
 
 pub put-listing-spec : {M : Type 1} → statement M
 put-listing-spec =
     tie.close
     (tie.spec Inv-loop μ-loop
-    (λ _ _. tt) (λ c. search needs) (λ _ _. tt) (λ c. search needs)
-    (λ c. omega (arith, written-advances _ _ _ _ _ _ _ _ (c .before .before .before .before .before .before .next-line .ensures) (ap tellsWritten (c .before .before .next .given .1)) .within))
-    (λ _ _. tt)
-    (λ c. written-advances _ _ _ _ _ _ _ _ (c .before .before .before .before .before .before .before .next-line .ensures) (ap tellsWritten (c .before .before .before .next .given .1)) .fewer)
+    (λ _ _. tt) (λ _ _. tt) (λ c. search needs) (λ _ _. tt) (λ c. search needs) add-write-out (λ _ _. tt) loop-less
     (λ c. search needs) (λ c. search needs) (λ c. search needs) (λ c. search needs) (λ c. search needs)
     (λ c. search needs) (λ c. search needs))

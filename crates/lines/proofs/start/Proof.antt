@@ -1,10 +1,10 @@
--- `listing::start` meets its contract: its test is the definition's.
+-- `lines::start` meets its contract: its test is the definition's.
 use mathlib.Core.Path.{refl}
 use native.Mathlib.Omega.{arith}
 use borrow.Author.Tests.{le-leb, lt-leb}
-use Rattle.listing.specs.Listing.{mostTrace}
-use Rattle.listing.proofs.start.Statement.{statement}
-use Rattle.listing.proofs.start.Tie as tie
+use Rattle.lines.specs.Listing.{mostTrace}
+use Rattle.lines.proofs.start.Statement.{statement}
+use Rattle.lines.proofs.start.Tie as tie
 
 pub start-spec : {M : Type 1} → statement M
 start-spec =

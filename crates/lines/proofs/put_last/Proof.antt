@@ -1,4 +1,4 @@
--- `listing::lines::put_last` meets its contract: the words and the numbers stand end to end in the array, which has room for them.
+-- `lines::put_last` meets its contract: the words and the numbers stand end to end in the array, which has room for them.
 use Prim.Native.Nat.{ℕ, _≤_}
 use mathlib.Core.List.{List, [], _∷_}
 use mathlib.Core.Path.{_≡_, sym}
@@ -9,9 +9,9 @@ use lib.Seq.{length-take-le}
 use Rattle.output.specs.Contracts.{Puts}
 use Rattle.output.proofs.Decimal.{more-short}
 use Rattle.output.proofs.Places.{puts-then, puts-within, puts-whole}
-use Rattle.listing.specs.Lines.{mostLine, lastLine}
-use Rattle.listing.proofs.lines.put_last.Statement.{statement}
-use Rattle.listing.proofs.lines.put_last.Tie as tie
+use Rattle.lines.specs.Lines.{mostLine, lastLine}
+use Rattle.lines.proofs.put_last.Statement.{statement}
+use Rattle.lines.proofs.put_last.Tie as tie
 
 abbrev line : tie.Start → List ℕ
 line c = lastLine (c .args .word .now) (c .args .place) (c .args .other .now) (c .args .value)
@@ -35,6 +35,11 @@ array-share-prefix-line c = puts-within (made (c .before)) .within (omega arith)
 whole : (c : tie.After-put-all3) → take (c .put-all3 .result) (c .put-all3 .last .0) ≡ line (start c)
 whole c = puts-whole (made c) (omega (arith, short (start c)))
 
+returns : tie.Need-returns
+returns c =
+    let made = c .before .before .before .before .before .before in
+    record { puts = rw (whole made) at (c .before .before .put-line .ensures); short = short (start made) }
+
 pub put-last-spec : {M : Type 1} → statement M
 put-last-spec =
     tie.close
@@ -43,6 +48,4 @@ put-last-spec =
     (λ _ _. tt) (λ c. search needs) (λ c. search needs) (λ _ _. tt) (λ c. search needs) (λ c. search needs)
     (λ _ _. tt) array-share-prefix-line
     (λ c. sym (length-take-le _ _ (array-share-prefix-line (c .before))))
-    (λ c κs. rw (whole (c .before .before .before)) (short (start (c .before .before .before))))
-    (λ c. search needs)
-    (λ c. rw (whole (c .before .before .before .before .before .before)) at (c .before .before .put-line .ensures)))
+    (λ _ _. tt) (λ c. search needs) returns)

@@ -1,0 +1,37 @@
+-- Each result says one thing, so a contract that gives what is said gives the result.
+use mathlib.Core.Path.{_≡_, refl, sym, _∙_}
+use Rattle.table.specs.Results.{TellsOnce}
+use Rattle.table.proofs.Results.{leads-back, by-equation, by-result-lent}
+use Rattle.lines.specs.Listing.{Next}
+use Rattle.lines.specs.Contracts.{ToldWritten, wrote, finished, refused, tellsWritten}
+use Rattle.lines.specs.Laws.{Determined, NextDetermined}
+use Rattle.lines.specs.declared.LineWritten.{LineWritten}
+use Rattle.lines.specs.declared.LineWritten.the-variants.{Line, Done, NoRoom}
+
+-- what is said tells which result said it
+answer : ToldWritten → LineWritten
+answer (wrote next n) = Line next n
+answer (finished whole) = Done whole
+answer (refused n) = NoRoom
+
+answers : (r : LineWritten) → answer (tellsWritten r) ≡ r
+unfolding answer
+answers (Line next n) = refl
+answers (Done whole) = refl
+answers NoRoom = refl
+
+written-once : TellsOnce tellsWritten
+written-once = leads-back answer answers
+
+pub determined : Determined
+determined =
+    record {
+      written-once = written-once;
+      start = λ length. by-equation _;
+      put-line = λ bytes next before at. by-result-lent written-once (λ r after a. record { says = a .says; leaves = a .bytes });
+      put-short = λ bytes next before at. by-result-lent written-once (λ r after a. record { says = a .puts .says; leaves = a .puts .bytes });
+    }
+
+pub next-determined : {S : Type 0} (n : Next S) → NextDetermined n
+next-determined n old before at b c r q after later x y =
+    (x .state ∙ sym (y .state), written-once r q (x .says ∙ sym (y .says)), x .bytes ∙ sym (y .bytes))

@@ -1,0 +1,16 @@
+-- What holds of every listing whose reading goes on, gathered: its lines are it, and its last line and its outcome tell the truth.
+use Rattle.lines.specs.Listing.{Listable}
+use Rattle.lines.specs.Laws.{ListingHolds}
+use Rattle.lines.proofs.Whole.{listing-exists, listing-once, lines-are-listing}
+use Rattle.lines.proofs.Outcome.{whole-exactly}
+use Rattle.lines.proofs.LastLine.{end-tells}
+
+pub listing-holds : {S E : Type 0} (m : Listable S E) → ListingHolds m
+listing-holds m on =
+    record {
+      exists = listing-exists m on;
+      once = listing-once m on;
+      lines = lines-are-listing m on;
+      whole = whole-exactly m;
+      end-tells = end-tells m on;
+    }

@@ -1,0 +1,9 @@
+pub mod Moves
+pub mod Ends
+pub mod Whole
+pub mod Outcome
+pub mod LastLine
+pub mod Holds
+pub mod Refusals
+pub mod Determined
+pub mod Alike
