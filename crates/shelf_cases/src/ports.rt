@@ -1,30 +1,26 @@
 // Ports of a case: the count of bays, the bays, the length of the queue, its numbers.
 ghost use Prim.Native.Nat.{_≤_, max};
 ghost use lib.ListN.{length};
+ghost use Rattle.held.specs.Rows.{mostHeld};
 use bay::Bay;
 use casefile::PHY_NUMBERS;
 use casefile::phy_numbers;
 use casefile::phy_of;
 use casefile::take;
 use casefile::take_many;
+use held::MOST_HELD;
+use held::Row;
+use held::fresh_row;
 use output::end_line;
 use output::put_line;
 use output::put_more;
 use output::put_numbers;
-
-// One more than a port may have.
-const MOST_BAYS: usize = 9;
 
 // One more than a queue may have.
 pub(crate) const MOST_QUEUE: usize = 193;
 
 // The numbers of a bay behind those of its phy.
 const CLOCK: usize = 2;
-
-// The bays of a case. Those behind its count are fresh, and are never lent.
-pub(crate) struct Row {
-    pub(crate) bays: [Bay; MOST_BAYS],
-}
 
 // A bay, and the place after it.
 struct BayTaken {
@@ -69,14 +65,12 @@ fn take_bay(s: &[u8], place: usize) -> BayTaken
     }
 }
 
+// The bays behind the count are fresh, and are never lent.
 fn take_row(s: &[u8], place: usize, count: usize) -> RowTaken
-    requires { ⌜ count ≤ 9 ⌝ }
+    requires { ⌜ count ≤ mostHeld ⌝ }
     ensures { λ r. ⌜ r .next ≤ max place (length (now (s .entry))) ⌝ }
 {
-    let fresh = bay::fresh();
-    let mut row = Row {
-        bays: [fresh; MOST_BAYS],
-    };
+    let mut row = fresh_row();
     let mut next = place;
     let mut i = 0;
     while i < count {
@@ -91,12 +85,12 @@ fn take_row(s: &[u8], place: usize, count: usize) -> RowTaken
 
 // The port at a place, its queue in the lent one.
 pub(crate) fn take_port(s: &[u8], place: usize, queue: &mut [u64]) -> PortTaken
-    ensures { λ r. ⌜ r .count ≤ 9 ⌝ }
+    ensures { λ r. ⌜ r .count ≤ mostHeld ⌝ }
     ensures { λ r. ⌜ r .length ≤ length (now (queue .exit)) ⌝ }
     ensures { λ r. ⌜ r .next ≤ length (now (s .entry)) ⌝ }
 {
     let bays = take(s, place);
-    let count = least(bays.value as usize, MOST_BAYS);
+    let count = least(bays.value as usize, MOST_HELD);
     let taken = take_row(s, bays.next, count);
     let held = take(s, taken.next);
     let length = least(held.value as usize, queue.len());
@@ -127,7 +121,7 @@ pub(crate) fn put_port(
     count: usize,
     queue: &[u64],
 ) -> usize {
-    let shown = least(count, MOST_BAYS);
+    let shown = least(count, MOST_HELD);
     let mut end = n;
     let mut i = 0;
     while i < shown {

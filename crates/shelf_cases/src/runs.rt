@@ -1,12 +1,12 @@
 // Cases of runs over shelf traces, each over the port that the one before left.
 ghost use Prim.Native.Nat.{_≤_, max};
 ghost use mathlib.Core.Path.{_≡_};
-ghost use lib.ListN.{length, take as front};
+ghost use lib.ListN.{length};
 ghost use Rattle.casefile.specs.Contracts.{EndsWithin};
 ghost use Rattle.shelf_run.specs.Contracts.{Runs};
+ghost use Rattle.held.specs.Rows.{mostHeld, front};
 use crate::ports::MOST_QUEUE;
 use crate::ports::PortTaken;
-use crate::ports::Row;
 use crate::ports::put_port;
 use crate::ports::take_port;
 use casefile::Place;
@@ -14,6 +14,7 @@ use casefile::put_piece;
 use casefile::put_pieces;
 use casefile::put_repeats;
 use casefile::take;
+use held::Row;
 use output::put_line;
 use shelf_run::Ran;
 
@@ -32,7 +33,7 @@ fn run_row(
     budget: usize,
     buffer: &mut [u8],
 ) -> RowRan
-    requires { ⌜ count ≤ 9 ⌝ }
+    requires { ⌜ count ≤ mostHeld ⌝ }
     ensures { λ r. ⌜ Runs (front count (row .bays)) (now (queue .entry)) (now (trace .entry)) budget (now (buffer .entry)) (r .ran) (front count (r .row .bays)) (now (queue .exit)) (now (buffer .exit)) ⌝ }
 {
     let mut lent = row;
@@ -72,7 +73,7 @@ fn put_run(
     kind: u64,
     out: &mut [u8],
 ) -> Gone
-    requires { ⌜ count ≤ 9 ⌝ }
+    requires { ⌜ count ≤ mostHeld ⌝ }
     ensures { λ r. ⌜ r .next ≡ gone .next ⌝ }
 {
     let r = run_row(gone.row, count, queue, trace, budget, lent);
@@ -109,7 +110,7 @@ fn paint(s: &[u8], place: usize, buffer: &mut [u8]) -> Painted
 
 // budget, buffer, pieces
 fn one_run(s: &[u8], kind: u64, count: usize, queue: &mut [u64], gone: Gone, out: &mut [u8]) -> Gone
-    requires { ⌜ count ≤ 9 ⌝ }
+    requires { ⌜ count ≤ mostHeld ⌝ }
     ensures { λ r. ⌜ r .next ≤ length (now (s .entry)) ⌝ }
 {
     let budget = take(s, gone.next);
@@ -142,7 +143,7 @@ fn all_runs(
     start: Gone,
     out: &mut [u8],
 ) -> Gone
-    requires { ⌜ count ≤ 9 ⌝ }
+    requires { ⌜ count ≤ mostHeld ⌝ }
     ensures { λ r. ⌜ r .next ≤ max (start .next) (length (now (s .entry))) ⌝ }
 {
     let mut left = runs;
@@ -163,7 +164,7 @@ fn run_port(
     out: &mut [u8],
     n: usize,
 ) -> Place
-    requires { ⌜ port .count ≤ 9 ⌝ }
+    requires { ⌜ port .count ≤ mostHeld ⌝ }
     ensures { λ r. ⌜ EndsWithin (now (s .entry)) r ⌝ }
 {
     let runs = take(s, port.next);

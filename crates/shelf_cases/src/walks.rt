@@ -1,11 +1,9 @@
 // Cases that walk a port: each event comes to the port that the one before left.
 ghost use Prim.Native.Nat.{_≤_, max};
-ghost use lib.ListN.{length, take as front};
-ghost use Rattle.port.specs.Contracts.{Steps};
+ghost use lib.ListN.{length};
 ghost use Rattle.casefile.specs.Contracts.{EndsWithin};
 use crate::ports::MOST_QUEUE;
 use crate::ports::PortTaken;
-use crate::ports::Row;
 use crate::ports::put_port;
 use crate::ports::take_port;
 use casefile::EVENT_NUMBERS;
@@ -13,33 +11,18 @@ use casefile::Place;
 use casefile::event_of;
 use casefile::take;
 use casefile::take_many;
-use event::Event;
+use held::Row;
+use held::step_row;
 use output::end_line;
 use output::put_more;
 use output::put_numbers;
 use port::Stepped;
-
-// A row after a step, and what the step gave.
-struct RowStepped {
-    row: Row,
-    stepped: Stepped,
-}
 
 // How far a walk has come: the row, where the case file is read next, and how much output is gathered.
 struct Walk {
     row: Row,
     next: usize,
     n: usize,
-}
-
-// A step of the port that the first bays of a row make, in the row as it is lent.
-fn step_row(row: Row, count: usize, queue: &mut [u64], number: u64, event: Event) -> RowStepped
-    requires { ⌜ count ≤ 9 ⌝ }
-    ensures { λ r. ⌜ Steps (front count (row .bays)) (now (queue .entry)) number event (r .stepped) (front count (r .row .bays)) (now (queue .exit)) ⌝ }
-{
-    let mut lent = row;
-    let stepped = port::step(&mut lent.bays[..count], queue, number, event);
-    RowStepped { row: lent, stepped }
 }
 
 // refusal, answer, both notices and sent, each with its tick, the answer's Open, the phy that received an
@@ -86,7 +69,6 @@ fn one_event(
     walk: Walk,
     out: &mut [u8],
 ) -> Walk
-    requires { ⌜ count ≤ 9 ⌝ }
     ensures { λ r. ⌜ r .next ≤ length (now (s .entry)) ⌝ }
 {
     let number = take(s, walk.next);
@@ -110,7 +92,6 @@ fn all_events(
     start: Walk,
     out: &mut [u8],
 ) -> Walk
-    requires { ⌜ count ≤ 9 ⌝ }
     ensures { λ r. ⌜ r .next ≤ max (start .next) (length (now (s .entry))) ⌝ }
 {
     let mut left = events;
@@ -131,7 +112,6 @@ fn walk_port(
     out: &mut [u8],
     n: usize,
 ) -> Place
-    requires { ⌜ port .count ≤ 9 ⌝ }
     ensures { λ r. ⌜ EndsWithin (now (s .entry)) r ⌝ }
 {
     let events = take(s, port.next);

@@ -47,11 +47,12 @@ use Rattle.shelf_run.proofs.run as run
 use Rattle.shelf_run.proofs.run.Symbol as run-def
 use Rattle.shelf_run.proofs.run.Symbol.{name as #shelf-run·run}
 use Rattle.shelf_run.proofs.run.Met as run-thm
-use Rattle.shelf_cases.specs.declared.ports.Row.{Row}
+use Rattle.held.specs.Rows.{mostHeld, front}
+use Rattle.held.specs.declared.Row.{Row}
+use Rattle.held.proofs.Kit.{rowVals, rowTells, rowTyped, rowMakes, row-field, struct-known, fronted, lent-long, front-of, lends-front, front-back}
+use Rattle.held.proofs.Row as T
+use Rattle.held.proofs.Row.Laws as T′
 use Rattle.shelf_cases.specs.declared.runs.RowRan.{RowRan}
-use Rattle.shelf_cases.proofs.Kit.{most, rowVals, rowTells, rowTyped, rowMakes, row-field, struct-known, front, fronted, front-long, front-of, lends-front, front-back}
-use Rattle.shelf_cases.proofs.ports.Row as T
-use Rattle.shelf_cases.proofs.ports.Row.Laws as T′
 use Rattle.shelf_cases.proofs.runs.RowRan as O
 use Rattle.shelf_cases.proofs.runs.RowRan.Laws as O′
 use Rattle.shelf_cases.proofs.runs.run_row.Key.{name as #shelf-cases·runs·run-row}
@@ -84,7 +85,7 @@ module _ {M : Type 1} (𝓤 : URA M) (H : Heap 𝓤) (A : Atoms 𝓤) (mem : Mem
   Run = tripleOf 𝓤 H A run.signature (run.spec 𝓤 H A mem runs)
 
 module _ {M : Type 1} (𝓤 : URA M) (H : Heap 𝓤) (A : Atoms 𝓤) (W : Given 𝓤 H A) (mem : Memory → SProp 𝓤) (runs : Routine → Fun 𝓤) (κ₁ κ₂ κ₃ : Lft) (q₁ q₂ q₃ : Share) (row : Row) (count : ℕ) (queue trace : RefT (List ℕ)) (budget : ℕ) (buffer : RefT (List ℕ))
-    (gr : Is T.the-row row (rowVals row)) (gc : count < 2 ^ 64) (gq : Room u64 (length (queue .now))) (gt : Room u8 (length (trace .now))) (gk : budget < 2 ^ 64) (gb : Room u8 (length (buffer .now))) (within : count ≤ most) where
+    (gr : Is T.the-row row (rowVals row)) (gc : count < 2 ^ 64) (gq : Room u64 (length (queue .now))) (gt : Room u8 (length (trace .now))) (gk : budget < 2 ^ 64) (gb : Room u8 (length (buffer .now))) (within : count ≤ mostHeld) where
   -- what goes to the callee behind the row
   abbrev Rest : Type 0
   Rest = RefT (List ℕ) × (RefT (List ℕ) × (ℕ × (RefT (List ℕ) × Unit {0})))
@@ -115,7 +116,7 @@ module _ {M : Type 1} (𝓤 : URA M) (H : Heap 𝓤) (A : Atoms 𝓤) (W : Given
 
   -- the records that are lent, at the address of their local
   abbrev lent : List Bay
-  lent = front count row
+  lent = front count (row .bays)
 
   abbrev Lent : ℕ → ℕ → GName → Fml
   Lent l ν γ = MutSlice (named 0) (ν ∷ []) R .own (at-row l 0 lent γ) (row-val l 0 lent ∷ [])
@@ -128,7 +129,7 @@ module _ {M : Type 1} (𝓤 : URA M) (H : Heap 𝓤) (A : Atoms 𝓤) (W : Given
   goes-run l ν γ =
       qed W ((‵ (flft (ν ∷ []) fullShare) ⊛ Toks) ∷ (‵ (Lent l ν γ) ⊛ ‵ Owns) ∷ []) ∵ move ! (1 ∷ []) $ split ! $ fjoin ! $ move ! (1 ∷ 0 ∷ []) $ join ! $ frame ! $ done !
 
-  exits : (r : RowRan) (ws after : List ℕ) → Runs lent (queue .now) (trace .now) budget (buffer .now) (r .ran) (front count (r .row)) ws after → length ws ≡ length (queue .now) → length after ≡ length (buffer .now) → Is O.the-row r (valsO r)
+  exits : (r : RowRan) (ws after : List ℕ) → Runs lent (queue .now) (trace .now) budget (buffer .now) (r .ran) (front count (r .row .bays)) ws after → length ws ≡ length (queue .now) → length after ≡ length (buffer .now) → Is O.the-row r (valsO r)
       → ent 𝓤 (⋆ 𝓤 H A (Toks ∷ ‵ (finally u64 (queue .name) ws) ∷ ‵ (finally u8 (buffer .name) after) ∷ ‵ Trace ∷ [])) (Post (O′.lowered r))
   exits r ws after e lw la g =
       qed W (Toks ∷ ‵ (finally u64 (queue .name) ws) ∷ ‵ (finally u8 (buffer .name) after) ∷ ‵ Trace ∷ []) ∵
@@ -157,7 +158,7 @@ module _ {M : Type 1} (𝓤 : URA M) (H : Heap 𝓤) (A : Atoms 𝓤) (W : Given
         assigns ! (addr ! (from ! (fld ! refl (hop ! (look-in ! 21 (sub ! 0 refl (whole !))) (stop !))))) (from ! (stop !)) (init ! 7 refl (tt, tt)) $
         assigns ! (agg ! (and-then ! (load ! (from ! (stop !)) (look ! 7 refl)) (and-then ! (load ! (from ! (fld ! refl (stop !))) (look-in ! 21 (sub ! 1 refl (whole !)))) (no-more !)))) (from ! (stop !)) (init ! 5 refl (tt, (tt, (record { fits = gb .0 }, tt)))) $
         -- the slice is as long as what is lent
-        rewrite ! 13 (λ (n : ℕ). ‵ (fat fullShare (sliceTy (tyRef erased mut (pointee (R .written)))) p 0 (sliceVal (l, 0) n))) (sym (front-long count row gr within)) refl $
+        rewrite ! 13 (λ (n : ℕ). ‵ (fat fullShare (sliceTy (tyRef erased mut (pointee (R .written)))) p 0 (sliceVal (l, 0) n))) (sym (lent-long count row gr within)) refl $
         move ! (19 ∷ []) $ lends-front ! tt row gr count l (λ ν γ. move ! (0 ∷ 5 ∷ []) $ join ! $ move ! (1 ∷ 5 ∷ []) $ join ! $ move ! (1 ∷ 0 ∷ []) $
         use2 W (raw (Run 𝓤 H A mem runs .pre (to-run l ν γ))) (goes-run l ν γ) $ calls-at ! fm (Run 𝓤 H A mem runs) met (to-run l ν γ)
         (and-then ! (load ! (from ! (stop !)) (look ! 15 refl)) (and-then ! (load ! (from ! (stop !)) (look ! 11 refl)) (and-then ! (load ! (from ! (stop !)) (look ! 26 refl)) (and-then ! (load ! (from ! (stop !)) (look ! 24 refl)) (and-then ! (load ! (from ! (stop !)) (look ! 7 refl)) (no-more !)))))) (λ _.
@@ -172,7 +173,7 @@ module _ {M : Type 1} (𝓤 : URA M) (H : Heap 𝓤) (A : Atoms 𝓤) (W : Given
         (init ! 34 refl (LL.lawful O.the-type O′.the-laws 𝓤 H A W .typed (both (fronted count row (zs .0)) r) _ (both-known (fronted count row (zs .0)) r gz g) .0)) $ returns ! (look ! 34 refl) $
         ends ! 34 refl refl $ ends ! 32 refl refl $ ends ! 30 refl refl $ ends ! 28 refl refl $ ends ! 26 refl refl $ ends ! 24 refl refl $ ends ! 22 refl refl $ move ! (0 ∷ 21 ∷ []) $ forget ! 0 refl $ free1 ! $
         ends ! 18 refl refl $ ends ! 16 refl refl $ ends ! 14 refl refl $ ends ! 12 refl refl $ ends ! 10 refl refl $ ends ! 8 refl refl $ ends ! 6 refl refl $ ends ! 4 refl refl $ free0 ! $
-        by ! (exits (both (fronted count row (zs .0)) r) (zs .1 .0) (zs .1 .1 .1 .1 .0) (subst (λ (ys : List Bay). Runs lent (queue .now) (trace .now) budget (buffer .now) r ys (zs .1 .0) (zs .1 .1 .1 .1 .0)) (sym (front-of count row gr within (zs .0) lf)) e) lw la (both-known (fronted count row (zs .0)) r gz g)))))))))))))))))))))))))
+        by ! (exits (both (fronted count row (zs .0)) r) (zs .1 .0) (zs .1 .1 .1 .1 .0) (subst (λ (ys : List Bay). Runs lent (queue .now) (trace .now) budget (buffer .now) r ys (zs .1 .0) (zs .1 .1 .1 .1 .0)) (sym (front-of count row gr (zs .0) lf)) e) lw la (both-known (fronted count row (zs .0)) r gz g)))))))))))))))))))))))))
 
 module _ {M : Type 1} (𝓤 : URA M) (H : Heap 𝓤) (A : Atoms 𝓤) (W : Given 𝓤 H A) (mem : Memory → SProp 𝓤) (runs : Routine → Fun 𝓤) (𝓣 : Tables 𝓤 H) (met : Triple 𝓤 (𝓣 .C #shelf-run·run) (Run 𝓤 H A mem runs)) where
   walks : Walks 𝓤 H A run-row.ended stayed (WpFn 𝓤 H (𝓣 .C) (𝓣 .Λ) code.function) (run-row.clauses 𝓤 H A mem runs)
