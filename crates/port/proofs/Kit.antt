@@ -1,5 +1,5 @@
 -- What the walks over a row of bays share: the record's type and laws, the MIR types of the locals, and steps that each walk repeats.
--- A call that has returned is taken to its result's machine value, with all that its contract says; a row that is owned is lent as `&` for the length of one call, and comes back; a local is freed where it stands; a loop counts up to a bound.
+-- A call that has returned is taken to its result's machine value, with all that its contract says; a row that is owned is lent as `&` for the length of one call, and comes back; a local is freed where it stands; a loop counts up to a bound; a function that passes on all that it is given has its callee's contract.
 use mathlib.Core.Path.{_≡_, refl, sym, ap, subst}
 use Prim.Native.Nat.{ℕ, zero, _-_, _<_}
 use mathlib.Core.Bool.{Bool}
@@ -12,24 +12,28 @@ use lib.ListN.{length}
 use lib.WfN.{Nat·lt-wfRel}
 use mir.Syntax.{Ty, Place, Body, Mutability, named, tyInt, tyRef, w64, seq, block, loop}
 use mir.Val.{Val, hasTy, WT}
-use base.Logic.{SProp, ent, sep, emp, ex, via, id⊢}
+use base.Logic.{SProp, ent, sep, emp, ex, via, id⊢, fst∗, snd∗, exI}
 use base.Fml.{Lft, Share, GName, Fml, ftrue, fat, froom, fdies, fsep, flft, flent, fobs, fauth, fbor, fobor, fshr-bor}
 use prog.Wp.{Heap, Out, Env, Calls, Loops, Tables, Wp, atReturn, afterSeq, afterBlock, afterTurn}
 use ghost.Atoms.{Atoms, sem}
-use contract.Monad.{fact}
+use contract.Monad.{Fun, fact, fact-use}
+use contract.Lifetimes.{Lfts}
 use types.Kit.{Given, Item, ‵, raw, some, later, mean, _⊛_, ⋆, nth, del, sel⊢, Goal, runs, lands, frees, anyQ, atRet, Post, Soaks, aim, Seq, Sq, Step, step, _$_, _∵_, !, qed, move, use0, use1, drop, split, join, pick, await, fsplit, fjoin, feqI, regoal, frame, done}
 use types.Run.{Below, forget, free1, first, blocks, loops}
 use types.Share.{arr-parts}
 use types.Tokens.{lft-new, lft-end, lent-back}
 use denote.RattleType.{RattleType, Denots, Valss, owns}
-use denote.Laws.{Is, Ises, Are, Tells, Copy, Makes, Makess, shows, owns-make}
+use denote.Laws.{Is, Ises, Are, Spells, valss, Tells, Tellss, all-tell, Copy, Makes, Makess, shows, showss, owns-show, owns-make}
 use denote.Memory.{pointee, shares}
 use denote.Ref.{RefT}
 use denote.Slice.{sliceTy, sliceVal, ShrSlice, Room, heres, codedHoleys, shr-slice-copy}
 use denote.Lend.{Held, lends-shr-slice}
 use denote.Index.{opens-slice, closes-slice}
-use denote.Steps.{only, facts, heard, nothing}
+use denote.Signature.{Signature, typeAt, typesAt}
+use denote.Steps.{only, facts, peeks, heard, nothing}
 use denote.Struct.Laws as LL
+use denote.Triple.Entry.{Vals, Res, alive, onEntry}
+use denote.Triple.Spec.{Spec, Meets, tripleOf}
 use Rattle.bay.specs.declared.Bay.{Bay}
 use Rattle.bay.proofs.Bay as T
 use Rattle.bay.proofs.Bay.Laws as T′
@@ -114,6 +118,15 @@ module _ {M : Type 1} {𝓤 : URA M} {H : Heap 𝓤} {A : Atoms 𝓤} {K : Type 
       facts t X (Is X) (shows 𝓤 H A X) r (u ∷ []) (λ g. move t (1 ∷ 0 ∷ []) $
       regoal t (λ (v : Val). lands C Λ E d v rest q) (ap only (tell r (u ∷ []) g)) refl $ k r ws e (subst (Is X r) (tell r (u ∷ []) g) g)))))
 
+  -- a call has returned: the result is known by its type, and all that the contract gives stays in one piece
+  pub knows : {G : Goal 𝓤 H} → K → Soaks G → (S : Signature) (c : Spec 𝓤 S) (x : tripleOf 𝓤 H A S c .Ghost) (u : Val)
+      → ((r : Res S (x .0 .0)) → Is (typeAt (S .result) (x .0 .0)) r (u ∷ []) → Seq K W (raw (tripleOf 𝓤 H A S c .post x u) ∷ Γ) G) → Seq K W (raw (tripleOf 𝓤 H A S c .post x u) ∷ Γ) G
+  knows t z S c x u k =
+      let X : RattleType = typeAt (S .result) (x .0 .0) in
+      let Got : X .Denot → Item 𝓤 = λ r. (raw (alive 𝓤 H A S (x .0 .0) (x .0 .1)) ⊛ ‵ (X .own r (u ∷ []))) ⊛ raw (c (x .0 .0) (x .0 .3) .ensures (x .1) r) in
+      use1 W (later (some Got)) (id⊢ 𝓤 _) $ await t z $ pick t (λ r. split t $ split t $ move t (1 ∷ []) $ peeks t X (Is X) (shows 𝓤 H A X) r (u ∷ []) (λ g. move t (1 ∷ 0 ∷ []) $ join t $ join t $
+      use1 W (raw (tripleOf 𝓤 H A S c .post x u)) (via 𝓤 (mean 𝓤 H A (some Got)) (exI 𝓤 (λ r. mean 𝓤 H A (Got r)) r) (W .laws .⇛-intro _)) $ k r g))
+
   module _ {G : Goal 𝓤 H} {κ : Lft} {q : Share} {γ : GName} where
     -- a row that is owned is lent as `&`, for a lifetime ν that is made for it
     pub lends : K → Soaks G → (ys : List Bay) (b o : ℕ) → Room R (length ys)
@@ -145,6 +158,33 @@ pub passes : {M : Type 1} (𝓤 : URA M) (H : Heap 𝓤) (A : Atoms 𝓤) (W : G
     → ent 𝓤 (sep 𝓤 (A .lft κ q) (sem 𝓤 H A P)) (sep 𝓤 (sep 𝓤 (sep 𝓤 (A .lft κ q) (emp 𝓤)) (sem 𝓤 H A (fsep P (owns Xs a vss)))) (emp 𝓤))
 passes 𝓤 H A W κ q P Xs mk a vss g =
     qed W (‵ (flft κ q) ∷ ‵ P ∷ []) ∵ nothing ! $ move ! (1 ∷ 0 ∷ []) $ join ! $ use0 W (‵ (owns Xs a vss)) (owns-make 𝓤 H A Xs (Ises Xs) mk a vss g) $ move ! (2 ∷ 0 ∷ []) $ fjoin ! $ move ! (1 ∷ 0 ∷ []) $ join ! $ frame ! $ done !
+
+-- a function that passes on all that it is given, under a contract c: what it is given, and the same at the machine values that the arguments fix
+module _ {M : Type 1} (𝓤 : URA M) (H : Heap 𝓤) (A : Atoms 𝓤) (S : Signature) (c : Spec 𝓤 S) (sp : (κs : Lfts (S .lifetimes)) → Spells (typesAt (S .params) κs)) where
+  abbrev Passed : Type 0
+  Passed = tripleOf 𝓤 H A S c .Ghost
+
+  abbrev at-vals : (x : Passed) → Vals S (x .0 .0) → Passed
+  at-vals x us = ((x .0 .0, x .0 .1, x .0 .2, x .0 .3, us), x .1)
+
+  abbrev pub written : Passed → Passed
+  written x = at-vals x (valss (typesAt (S .params) (x .0 .0)) (sp (x .0 .0)) (x .0 .3))
+
+  abbrev Known : Passed → Type 0
+  Known x = Are (typesAt (S .params) (x .0 .0)) (Ises (typesAt (S .params) (x .0 .0))) (x .0 .3) (x .0 .4)
+
+  abbrev Keeps : Fun 𝓤 → Passed → Type 1
+  Keeps run x = ent 𝓤 (tripleOf 𝓤 H A S c .pre x) (run (tripleOf 𝓤 H A S c .args x) (tripleOf 𝓤 H A S c .post x))
+
+  -- it meets the contract by a walk that begins with all that is asked, in one piece, at those values
+  pub passes-on : ((κs : Lfts (S .lifetimes)) → Tellss (typesAt (S .params) κs) (Ises (typesAt (S .params) κs)) (sp κs)) → (run : Fun 𝓤) → ((x : Passed) → Known (written x) → Keeps run (written x)) → Meets 𝓤 H A S run c
+  passes-on tell run k x =
+      let Xs : List RattleType = typesAt (S .params) (x .0 .0) in
+      let Owned : SProp 𝓤 = sem 𝓤 H A (owns Xs (x .0 .3) (x .0 .4)) in
+      let Entry : SProp 𝓤 = onEntry 𝓤 H A S (x .0 .0) (x .0 .1) (x .0 .3) (x .0 .4) in
+      let fixed : Known x → x .0 .4 ≡ written x .0 .4 = all-tell Xs (Ises Xs) (sp (x .0 .0)) (tell (x .0 .0)) (x .0 .3) (x .0 .4) in
+      fact-use 𝓤 (Known x) (via 𝓤 Entry (fst∗ 𝓤 Entry (c (x .0 .0) (x .0 .3) .requires (x .1))) (via 𝓤 Owned (snd∗ 𝓤 (alive 𝓤 H A S (x .0 .0) (x .0 .1)) Owned) (owns-show 𝓤 H A Xs (Ises Xs) (showss 𝓤 H A Xs) (x .0 .3) (x .0 .4))))
+      (λ g. subst (λ (us : Vals S (x .0 .0)). Keeps run (at-vals x us)) (sym (fixed g)) (k x (subst (λ (us : Vals S (x .0 .0)). Known (at-vals x us)) (fixed g) g)))
 
 -- a loop that counts up to m: X is how far it is
 abbrev pub Nearer : {X : Type 0} → (X → ℕ) → ℕ → X → X → Type 0
