@@ -33,7 +33,7 @@ use denote.Struct.Laws as LL
 use borrow.Table.Elements.{at, cut-app, join-app, same-len}
 use borrow.Rule.Array.Share.{room-take}
 use Rattle.bay.specs.declared.Bay.{Bay}
-use Rattle.port.proofs.Arrays.{lowereds, of-fields, to-fields}
+use Rattle.port.proofs.Arrays.{lowereds, tuples-long, of-fields, to-fields}
 use Rattle.port.proofs.Kit.{R, rec, vals, tells, makes, at-row, row-val}
 use Rattle.held.specs.Rows.{mostHeld, shown, front, behind}
 use Rattle.held.specs.declared.Row.{Row}
@@ -66,6 +66,10 @@ row-known zs p = let g : Is T.the-row (rowOf zs) (vstruct (vcons (arrayVal (p .0
 
 row-length : (t : Row) → Is T.the-row t (rowVals t) → length (t .bays) ≡ mostHeld
 row-length t g = array-known t g .1 .0 .1
+
+-- the same of a row as covered code knows it
+pub row-long : (t : Row) → Is T.the-row t (LL.vals T.the-type T′.the-laws t) → length (t .bays) ≡ mostHeld
+row-long t g = tuples-long mostHeld (t .bays) (g .1 .1 .0)
 
 -- what is known of a row is known of it as a field, and what is known of the fields of a struct that holds one is known of the struct
 pub row-field : (t : Row) → Is T.the-row t (rowVals t) → Is T.the-row t (LL.vals T.the-type T′.the-laws t)

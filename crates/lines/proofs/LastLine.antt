@@ -16,7 +16,7 @@ further : {bytes last : List ℕ} (first : List ℕ) → EndsWith bytes last →
 further {last = last} first e = record { front = first ++ e .front; whole = ap (λ (b : List ℕ). first ++ b) (e .whole) ∙ sym (append-assoc first (e .front) last) }
 
 module _ {S E : Type 0} (m : Listable S E) (on : ReadsOn m) where
-  ends : {s : List ℕ} {place count : ℕ} {b : S} {bytes : List ℕ} {es : List E} → place ≤ length s → ReadsAll m s place es → ListsFrom m s place count b bytes
+  ends : {s : List ℕ} {place count : ℕ} {b : S} {bytes : List ℕ} {es : List E} → place ≤ length s → ReadsAll (m .reads) s place es → ListsFrom m s place count b bytes
       → EndsWith bytes (endLine (length s) (count + length es))
   ends {s} {place} {count} h (laws.ended e) (ended f) =
       record { front = []; whole = ap₂ endLine (omega (arith, on .at-end s place e)) (omega arith) }

@@ -24,7 +24,7 @@ module _ {S E : Type 0} (m : Listable S E) where
   -- from a place on the trace is read to its end without a fault
   record Read (s : List ℕ) (place : ℕ) : Type 0 where
     events : List E
-    reads : ReadsAll m s place events
+    reads : ReadsAll (m .reads) s place events
 
   -- one event read, and then the others
   after-event : {s : List ℕ} {place next : ℕ} {e : E} → m .reads s place ≡ found e next → Read s next → Read s place
@@ -32,17 +32,17 @@ module _ {S E : Type 0} (m : Listable S E) where
 
   -- and back
   others :
-      {s : List ℕ} {place next : ℕ} {e : E} {es : List E} → m .reads s place ≡ found e next → ReadsAll m s place es
+      {s : List ℕ} {place next : ℕ} {e : E} {es : List E} → m .reads s place ≡ found e next → ReadsAll (m .reads) s place es
       → Read s next
   others h (laws.ended k) = let w = sym k ∙ h in apart cc
   others {s} {next = next} h (laws.taken {next = after} {es = es} k r) =
       let w = sym k ∙ h in
       let same : after ≡ next = cc in
-      record { events = es; reads = subst (λ (n : ℕ). ReadsAll m s n es) same r }
+      record { events = es; reads = subst (λ (n : ℕ). ReadsAll (m .reads) s n es) same r }
 
   -- none comes after a fault
   no-others :
-      {s : List ℕ} {place n at : ℕ} {es : List E} → m .reads s place ≡ fault n at → ReadsAll m s place es → ⊥
+      {s : List ℕ} {place n at : ℕ} {es : List E} → m .reads s place ≡ fault n at → ReadsAll (m .reads) s place es → ⊥
   no-others h (laws.ended k) = let w = sym k ∙ h in apart cc
   no-others h (laws.taken k r) = let w = sym k ∙ h in apart cc
 

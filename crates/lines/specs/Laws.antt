@@ -8,7 +8,7 @@ use lib.ListN.{length}
 use Rattle.table.specs.Refusals.{noRoom}
 use Rattle.table.specs.Results.{TellsOnce, Determines, DeterminesLent}
 use Rattle.lines.specs.Lines.{mostLine, endLine}
-use Rattle.lines.specs.Listing.{mostTrace, found, nothing, Listable, Lists, Next, lineOf, noLine, startOf, lineAt}
+use Rattle.lines.specs.Listing.{mostTrace, Found, found, nothing, Listable, Lists, Next, lineOf, noLine, startOf, lineAt}
 use Rattle.lines.specs.Contracts.{StartsListing, wrote, finished, refused, tellsWritten, PutsLine, PutsShort}
 use Rattle.lines.specs.Contracts.{bytesOf, writeNext, bufferAfter, stateAfter, PutsNext, movedOn}
 use Rattle.lines.specs.declared.Progress.{Progress}
@@ -154,17 +154,17 @@ LinesAreListing {S} m = (b : S) (s bytes : List ℕ) → LinesFrom m s (startOf 
 -- ---- the outcome (proofs/Outcome)
 
 -- reading on from a place gives these events and then the trace's end, with no fault
-pub data ReadsAll {S E : Type 0} (m : Listable S E) (s : List ℕ) : (place : ℕ) → List E → Type 0 where
-  ended : {place : ℕ} → m .reads s place ≡ nothing → ReadsAll m s place []
+pub data ReadsAll {E : Type 0} (reads : List ℕ → ℕ → Found E) (s : List ℕ) : (place : ℕ) → List E → Type 0 where
+  ended : {place : ℕ} → reads s place ≡ nothing → ReadsAll reads s place []
   taken :
-      {place next : ℕ} {e : E} {es : List E} → m .reads s place ≡ found e next → ReadsAll m s next es
-      → ReadsAll m s place (e ∷ es)
+      {place next : ℕ} {e : E} {es : List E} → reads s place ≡ found e next → ReadsAll reads s next es
+      → ReadsAll reads s place (e ∷ es)
 
 -- a trace that is not too long and is read to its end without a fault
 pub record Whole {S E : Type 0} (m : Listable S E) (s : List ℕ) : Type 0 where
   pub short : length s ≤ mostTrace
   pub events : List E
-  pub read : ReadsAll m s 0 events
+  pub read : ReadsAll (m .reads) s 0 events
 
 -- the outcome after the lines from the start on tells whether the trace is whole
 abbrev pub WholeExactly : {S E : Type 0} → Listable S E → Type 0
@@ -180,7 +180,7 @@ pub record EndsWith (bytes last : List ℕ) : Type 0 where
 -- the listing of a trace that is read without a fault ends with the trace's length and its number of events
 abbrev pub EndTells : {S E : Type 0} → Listable S E → Type 0
 EndTells {S} {E} m =
-    (b : S) (s bytes : List ℕ) (es : List E) → length s ≤ mostTrace → ReadsAll m s 0 es → Lists m b s bytes
+    (b : S) (s bytes : List ℕ) (es : List E) → length s ≤ mostTrace → ReadsAll (m .reads) s 0 es → Lists m b s bytes
     → EndsWith bytes (endLine (length s) (length es))
 
 -- all of these, of one kind of listing

@@ -7,15 +7,15 @@ use Rattle.trace.specs.Reading.{readEvent}
 use Rattle.trace.specs.Laws as trace
 use Rattle.bay.specs.State.{freshBay}
 use Rattle.lines.specs.Laws as lines
-use Rattle.listing.specs.Listing.{foundOf, ofPhy}
+use Rattle.listing.specs.Listing.{foundOf, finds}
 use Rattle.listing.specs.Laws.{Whole, WholeExactly, EndTells}
 use Rattle.listing.proofs.Whole.{found-event, found-end, phy-listing}
 
-to-reader : {s : List ℕ} {place : ℕ} {es : List Event} → lines.ReadsAll ofPhy s place es → trace.ReadsAll s place es
+to-reader : {s : List ℕ} {place : ℕ} {es : List Event} → lines.ReadsAll finds s place es → trace.ReadsAll s place es
 to-reader {s} {place} (lines.ended e) = trace.ended (found-end (readEvent s place) e)
 to-reader {s} {place} (lines.taken {next = next} {e = v} e r) = trace.taken (found-event (readEvent s place) v next e) (to-reader r)
 
-from-reader : {s : List ℕ} {place : ℕ} {es : List Event} → trace.ReadsAll s place es → lines.ReadsAll ofPhy s place es
+from-reader : {s : List ℕ} {place : ℕ} {es : List Event} → trace.ReadsAll s place es → lines.ReadsAll finds s place es
 from-reader (trace.ended e) = lines.ended (ap foundOf e)
 from-reader (trace.taken e r) = lines.taken (ap foundOf e) (from-reader r)
 

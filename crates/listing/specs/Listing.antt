@@ -16,12 +16,16 @@ foundOf (event e next) = found e next
 foundOf end = nothing
 foundOf (refused n at) = fault n at
 
+-- what stands at a place of a trace
+abbrev pub finds : (s : List ℕ) → (place : ℕ) → Found Event
+finds s place = foundOf (readEvent s place)
+
 -- what is listed
 abbrev pub ofPhy : Listable Bay Event
 ofPhy =
     record {
       header = headerLine;
-      reads = λ s place. foundOf (readEvent s place);
+      reads = finds;
       line = λ place b e. eventLine place (columnsOf e (stepOf b e));
       next = λ b e. stepOf b e .next;
     }

@@ -5,8 +5,7 @@ mod event_line;
 ghost use mathlib.Core.Path.{_≡_};
 ghost use Rattle.lines.specs.Listing.{afterReading};
 ghost use Rattle.lines.specs.Contracts.{movedOn};
-ghost use Rattle.trace.specs.Reading.{readEvent};
-ghost use Rattle.listing.specs.Listing.{foundOf, ofPhy};
+ghost use Rattle.listing.specs.Listing.{finds, ofPhy};
 ghost use Rattle.listing.specs.Contracts.{Puts, WritesLine};
 use bay::Bay;
 use event_line::columns_of;
@@ -50,7 +49,7 @@ fn bay_after(written: LineWritten, before: Bay, after: Bay) -> Bay
 
 // The line of what stands at a place: an event, the trace's end or a fault.
 fn next_event(trace: &[u8], place: usize, count: u64, bay: Bay, out: &mut [u8], at: usize) -> Listed
-    ensures { λ r. ⌜ Puts (afterReading ofPhy place count bay (foundOf (readEvent (now (trace .entry)) place))) bay (now (out .entry)) at r (now (out .exit)) ⌝ }
+    ensures { λ r. ⌜ Puts (afterReading ofPhy place count bay (finds (now (trace .entry)) place)) bay (now (out .entry)) at r (now (out .exit)) ⌝ }
 {
     match trace::event_at(trace, place) {
         EventRead::Event { event, next } => {

@@ -1,0 +1,5 @@
+pub mod Rows
+pub mod Alike
+pub mod Whole
+pub mod Outcome
+pub mod Determined

@@ -1,0 +1,5 @@
+pub mod Lines
+pub mod Listing
+pub mod Held
+pub mod Contracts
+pub mod Laws
