@@ -1,10 +1,10 @@
 -- What the lister's functions say of its input and, by its outcome, of the trace that it listed.
-use Prim.Native.Nat.{ℕ, suc}
-use mathlib.Core.Bool.{Bool, true, false}
-use mathlib.Core.List.{List}
+use Prim.Native.Nat.{ℕ, suc, _+_, _-_, _*_}
+use mathlib.Core.Bool.{Bool, true, false, _&&_}
+use mathlib.Core.List.{List, [], _∷_}
 use mathlib.Core.Logic.{_⊎_}
 use mathlib.Core.Path.{_≡_}
-use lib.Dec.{eqb}
+use lib.Dec.{eqb, leb}
 use Rattle.table.specs.Choice.{pick}
 use Rattle.output.specs.Writing.{lost}
 use Rattle.lines.specs.Listing.{mostTrace, Listable, startOf}
@@ -14,6 +14,30 @@ use Rattle.lister.specs.declared.Input.{Input}
 use Rattle.lister.specs.declared.Input.the-variants.{Length, Unread as unread}
 use Rattle.lister.specs.declared.Outcome.{Outcome}
 use Rattle.lister.specs.declared.Outcome.the-variants.{Whole, Damaged, Unwritten, Unread}
+
+-- the bytes that are digits
+abbrev pub firstDigit : ℕ
+firstDigit = 48
+
+abbrev pub lastDigit : ℕ
+lastDigit = 57
+
+abbrev pub isDigit : ℕ → Bool
+isDigit d = leb firstDigit d && leb d lastDigit
+
+-- a number with one digit more behind it
+abbrev pub withDigit : (n d : ℕ) → ℕ
+withDigit n d = n * 10 + (d - firstDigit)
+
+-- the number that digits mean behind those that mean n; 0 where a byte is no digit, or the number comes past a limit
+unfoldable pub meantBehind : (limit n : ℕ) → List ℕ → ℕ
+meantBehind limit n [] = n
+meantBehind limit n (d ∷ ds) =
+    pick (isDigit d) (pick (leb (withDigit n d) limit) (meantBehind limit (withDigit n d) ds) 0) 0
+
+-- `meant_by` of a text
+abbrev pub meantBy : (limit : ℕ) → List ℕ → ℕ
+meantBy limit text = meantBehind limit 0 text
 
 -- `total`: the input is as long as what was kept, or longer than may be listed, or unread; no contract says which
 abbrev pub Measures : (kept : ℕ) → Input → Type 0

@@ -4,4 +4,3 @@ use Rattle.shelf_listing.proofs.fresh.Tie as tie
 
 pub fresh-spec : {M : Type 1} → statement M
 fresh-spec = tie.close (tie.spec (λ _ _. tt) (λ c. simp (c .fresh-row .ensures)))
-

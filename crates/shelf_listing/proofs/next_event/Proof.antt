@@ -36,4 +36,3 @@ next-event-spec =
     (λ c. search needs) (λ _ _. tt) (λ c. search needs) (λ _ _. tt) (λ c. search needs) (λ _ _. tt) (λ c. search needs)
     returns (λ c. search needs) returns-2 (λ c. search needs) returns-3 (λ c. search needs) returns-4
     (λ c. search needs) returns-5)
-

@@ -29,4 +29,3 @@ next-line-spec =
     (tie.spec
     (λ c. search needs) (λ _ _. tt) (λ c. search needs) (λ _ _. tt) (λ c. search needs) (λ _ _. tt) (λ c. search needs)
     (λ c. search needs) returns (λ c. search needs) returns-2 (λ c. search needs) returns-3 returns-4)
-

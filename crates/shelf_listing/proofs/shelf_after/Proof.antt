@@ -9,4 +9,3 @@ shelf-after-spec =
     tie.close
     (tie.spec (λ c. search needs) (λ c. search needs) (λ c. search needs) (λ c. search needs) (λ c. search needs)
     (λ c. rw (c .enum-told3 .given .1) refl))
-

@@ -8,4 +8,3 @@ last-notice-spec =
     tie.close
     (tie.spec
     (λ c. simp (eq-eqb _ _ (c .if1 .taken))) (λ c. simp (ne-eqb _ _ (c .if1 .left))))
-

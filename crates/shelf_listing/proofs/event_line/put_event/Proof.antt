@@ -31,4 +31,3 @@ put-event-spec =
     (tie.spec
     (λ c. search needs) (λ c. search needs) (λ _ _. tt) (λ c. search needs) (λ c. search needs) (λ _ _. tt)
     (λ c. search needs) (λ c. sym (length-take-le _ _ (omega arith))) (λ _ _. tt) (λ c. search needs) returns)
-

@@ -17,4 +17,3 @@ returns-2 c = of-none (c .before .args .t1 .bays) (c .before .args .phys) (c .be
 
 pub states-at-spec : {M : Type 1} → statement M
 states-at-spec = tie.close (tie.spec (λ c. omega (arith, below c)) below returns returns-2)
-
