@@ -17,10 +17,22 @@ enum {
 
 static const char suffix[] = ".hex";
 
+/* Behind it stands a digit, and then what ends the words. */
+static const char shelf_words[] = "# --shelf ";
+static const char shelf_words_end[] = ": ";
+
+enum {
+    PHYS_AT = sizeof shelf_words - 1,
+    START_ROOM = PHYS_AT + 1 + sizeof shelf_words_end - 1
+};
+
+/* start: what the text begins with, as far as there is room for it. */
 struct hex_text {
     FILE *stream;
     unsigned long line;
     int character;
+    size_t started;
+    char start[START_ROOM];
 };
 
 /* ---- The text; what is wrong is told as a message, nothing wrong as none ---- */
@@ -31,6 +43,22 @@ static void next_character(struct hex_text *text)
         text->line++;
     }
     text->character = getc(text->stream);
+    if (text->character != EOF && text->started < START_ROOM) {
+        text->start[text->started] = (char)text->character;
+        text->started++;
+    }
+}
+
+static size_t phys_named(const struct hex_text *text)
+{
+    char digit = text->start[PHYS_AT];
+
+    if (memcmp(text->start, shelf_words, PHYS_AT) != 0
+        || digit < '0' || digit > '9'
+        || memcmp(text->start + PHYS_AT + 1, shelf_words_end, sizeof shelf_words_end - 1) != 0) {
+        return HEX_NO_PHYS;
+    }
+    return (size_t)(digit - '0');
 }
 
 static int digit_value(int character)
@@ -122,6 +150,7 @@ bool hex_file_read(const char *path, struct hex_bytes *into)
         fprintf(stderr, "%s:%lu: %s\n", path, text.line, wrong);
     }
     fclose(text.stream);
+    into->phys = phys_named(&text);
     return wrong == NULL;
 }
 
@@ -154,8 +183,7 @@ static bool take_file(const char *folder, const char *name, hex_taker *take, voi
     if (!hex_file_read(path, &read)) {
         return false;
     }
-    take(lent, read.bytes, read.length);
-    return true;
+    return take(lent, path, &read);
 }
 
 bool hex_folder_read(const char *folder, hex_taker *take, void *lent)

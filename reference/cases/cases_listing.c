@@ -299,11 +299,13 @@ void make_lister_case(struct case_file *file)
 
 /* ---- Traces from a folder ---- */
 
-static void take_named_trace(void *lent, const uint8_t *bytes, size_t length)
+static bool take_named_trace(void *lent, const char *path, const struct hex_bytes *read)
 {
     struct case_file *file = lent;
 
-    list_bytes(file, bytes, length);
+    (void)path;
+    list_bytes(file, read->bytes, read->length);
+    return true;
 }
 
 bool make_named_listing_cases(struct case_file *file, const char *folder)
