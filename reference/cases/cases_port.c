@@ -161,16 +161,9 @@ static struct bay nearly_done(struct phy_pair pair)
     return bay;
 }
 
-static bool frees(const struct bay *bay, const struct phy_event *event)
-{
-    struct bay_result step = bay_step(*bay, *event);
-
-    return step.refusal == 0 && port_bay_is_free(&step.bay);
-}
-
 static void list_if_freeing(struct freeing_list *list, const struct bay *bay, struct phy_event event)
 {
-    if (frees(bay, &event)) {
+    if (event_frees(bay, &event)) {
         assert(list->count < MOST_FREEINGS);
         list->freeings[list->count] = (struct freeing){*bay, event};
         list->count++;
@@ -253,7 +246,7 @@ static void keep_queue(struct case_file *file, size_t first_pair, uint64_t accep
         for (size_t i = 0; i < PORT_MOST_BAYS; i++) {
             struct phy_event event = quiet_event(code);
 
-            if (!frees(&walk.now.bays[i], &event)) {
+            if (!event_frees(&walk.now.bays[i], &event)) {
                 port_walk_add(&walk, to_phy(i, event));
             }
         }

@@ -2,8 +2,9 @@
 
 #include "case_trace.h"
 #include "number.h"
+#include "port_box.h"
 #include "shelf.h"
-#include "shelf_chain.h"
+#include "shelf_samples.h"
 #include "stamp_samples.h"
 
 #include <string.h>

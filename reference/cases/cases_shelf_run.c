@@ -3,37 +3,22 @@
 #include "bay_samples.h"
 #include "number.h"
 #include "shelf_chain.h"
+#include "shelf_samples.h"
 #include "stamp_samples.h"
 
 #include <string.h>
 
 enum {
-    TOUR = 22,
+    TOUR = SHELF_TOUR,
     RANDOM_CHAINS = 4,
     RANDOM_RUNS = 3,
     RANDOM_EVENTS = 24
 };
 
-#define TICK_OF(number) {number, {EVENT_TICK, {0}}}
-#define STAMP_OF(number, counter) {number, {EVENT_TIME_STAMP, {counter}}}
-#define PLAIN_OF(number, code) {number, {code, {0}}}
-#define OPEN_OF(number, to, wait) {number, {EVENT_TX_OPEN, {to, PROTOCOL_SMP, RATE_1_5_GBPS, 1, 0, wait}}}
-
-/* From two fresh phys: answers at both, every refusal that a run can write of an event, hand-outs at the port's own
- * event, at a tick and at the end of a gap, and stamps of both phys. */
-static const struct shelf_event tour[TOUR] = {
-    STAMP_OF(0, 10), OPEN_OF(127, 7, 0), OPEN_OF(127, 8, 3), OPEN_OF(127, 9, 300), OPEN_OF(0, 7, 0),
-    STAMP_OF(1, 5000), TICK_OF(2), TICK_OF(127), STAMP_OF(0, 2009), STAMP_OF(0, 2010),
-    PLAIN_OF(1, EVENT_OPEN_ACCEPT), PLAIN_OF(1, EVENT_CANCEL_OPEN), PLAIN_OF(1, EVENT_SMP_TRANSMIT_BREAK),
-    PLAIN_OF(1, EVENT_CLOSE_CONNECTION), OPEN_OF(127, 10, 1), STAMP_OF(1, 6000),
-    PLAIN_OF(0, EVENT_BREAK), TICK_OF(0), PLAIN_OF(UINT64_MAX, EVENT_HARD_RESET), STAMP_OF(127, 0),
-    PLAIN_OF(0, EVENT_HARD_RESET), OPEN_OF(1, 6, 2)
-};
-
 static void add_tour(struct byte_string *string, size_t from, size_t to, size_t groups)
 {
     for (size_t i = from; i < to; i++) {
-        add_shelf_event(string, tour[i], groups);
+        add_shelf_event(string, shelf_tour[i], groups);
     }
 }
 

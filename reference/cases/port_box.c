@@ -3,6 +3,7 @@
 #include "bay_fields.h"
 #include "bay_samples.h"
 #include "phy_samples.h"
+#include "refusals.h"
 #include "stamp_samples.h"
 
 #include <assert.h>
@@ -67,6 +68,13 @@ struct phy_event numbered_open(uint64_t number)
 struct bay sample_bay(uint64_t link, uint64_t port)
 {
     return bay_without_base(pair_record((struct phy_pair){link, port}));
+}
+
+bool event_frees(const struct bay *bay, const struct phy_event *event)
+{
+    struct bay_result step = bay_step(*bay, *event);
+
+    return step.refusal == NOT_REFUSED && port_bay_is_free(&step.bay);
 }
 
 struct shelf_event to_phy(uint64_t number, struct phy_event event)

@@ -38,6 +38,9 @@ struct phy_event numbered_open(uint64_t number);
 
 struct bay sample_bay(uint64_t link, uint64_t port);
 
+/* Whether the phy takes the event and is free after it, as it may have been before. */
+bool event_frees(const struct bay *bay, const struct phy_event *event);
+
 struct shelf_event to_phy(uint64_t number, struct phy_event event);
 struct shelf_event to_port(struct phy_event event);
 

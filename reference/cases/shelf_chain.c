@@ -1,6 +1,5 @@
 #include "shelf_chain.h"
 
-#include "number.h"
 #include "refusals.h"
 #include "shelf_run.h"
 
@@ -92,12 +91,4 @@ void single_shelf_run(
     struct shelf_chain chain = start_shelf_chain(file, start, 1);
 
     shelf_chain_string(&chain, budget, room, string);
-}
-
-void add_shelf_event(struct byte_string *string, struct shelf_event event, size_t groups)
-{
-    size_t needed = number_length(event.number);
-
-    add_padded(string, event.number, groups > needed ? groups : needed);
-    add_event(string, &event.event);
 }

@@ -23,7 +23,4 @@ void single_shelf_run(
     struct case_file *file, const struct port_box *start, uint64_t budget, size_t room,
     const struct byte_string *string);
 
-/* The number in so many groups, and then the event in its shortest form. */
-void add_shelf_event(struct byte_string *string, struct shelf_event event, size_t groups);
-
 #endif
