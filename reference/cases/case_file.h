@@ -21,7 +21,8 @@ enum case_kind {
     KIND_READ_SHELF_EVENT = 12,
     KIND_WRITE_SHELF_EVENT = 13,
     KIND_PORT_WALK = 14,
-    KIND_SHELF_RUNS = 15
+    KIND_SHELF_RUNS = 15,
+    KIND_SHELF_LISTING = 16
 };
 
 /* The two files stay in step: whoever writes a case also writes the lines expected of it. */

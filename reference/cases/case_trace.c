@@ -122,6 +122,16 @@ void add_fault_in(
     add_fault_of(string, fault, is_counter ? PAST_32_BITS : OUT_OF_RANGE);
 }
 
+void add_faulty_event(
+    struct byte_string *string, const struct phy_event *event, size_t which, enum number_fault fault)
+{
+    add_event_numbers(string, event, 0, which);
+    add_fault_in(string, event, which, fault);
+    if (fault < FAULT_CUT) {
+        add_event_numbers(string, event, which + 1, event_numbers(event));
+    }
+}
+
 void add_event(struct byte_string *string, const struct phy_event *event)
 {
     add_event_numbers(string, event, 0, event_numbers(event));

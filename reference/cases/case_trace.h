@@ -64,6 +64,10 @@ void add_event_numbers(struct byte_string *string, const struct phy_event *event
 void add_fault_in(
     struct byte_string *string, const struct phy_event *event, size_t which, enum number_fault fault);
 
+/* The event with such a fault; what is cut has nothing behind it. */
+void add_faulty_event(
+    struct byte_string *string, const struct phy_event *event, size_t which, enum number_fault fault);
+
 /* The event alone, padded like that. */
 struct byte_string event_string(const struct phy_event *event, size_t groups);
 

@@ -37,10 +37,15 @@ void make_port_cases(struct case_file *file);
 void make_refused_port_cases(struct case_file *file);
 void make_shelf_run_cases(struct case_file *file);
 
+/* Listings of shelf traces; the second: every way to a hand-out. */
+void make_shelf_listing_cases(struct case_file *file);
+void make_hand_out_listing_cases(struct case_file *file);
+
 /* One trace, as it is; the program that takes it is the lister. */
 void make_lister_case(struct case_file *file);
 
 /* From the traces of a folder; false if one of them is wrong or cannot be read. */
 bool make_named_listing_cases(struct case_file *file, const char *folder);
+bool make_named_shelf_listing_cases(struct case_file *file, const char *folder);
 
 #endif

@@ -131,10 +131,8 @@ static void list_fault(struct case_file *file, size_t before, size_t which, enum
     struct phy_event open = sample_event(EVENT_TX_OPEN);
 
     add_tour(&string, before, SHORTEST);
-    add_event_numbers(&string, &open, 0, which);
-    add_fault(&string, fault);
+    add_faulty_event(&string, &open, which, fault);
     if (fault < FAULT_CUT) {
-        add_event_numbers(&string, &open, which + 1, event_numbers(&open));
         add_byte(&string, EVENT_TICK);
     }
     list_string(file, &string);

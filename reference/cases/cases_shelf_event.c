@@ -144,11 +144,7 @@ static void read_fault(
     size_t place = string.length;
 
     add_padded(&string, 7, 3);
-    add_event_numbers(&string, event, 0, which);
-    add_fault_in(&string, event, which, fault);
-    if (fault < FAULT_CUT) {
-        add_event_numbers(&string, event, which + 1, event_numbers(event));
-    }
+    add_faulty_event(&string, event, which, fault);
     read_case(file, place, &string);
 }
 

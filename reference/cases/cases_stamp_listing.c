@@ -87,10 +87,8 @@ static void list_fault(struct case_file *file, size_t before, size_t which, enum
     struct byte_string string = {.length = 0};
 
     add_tour(&string, before, SHORTEST);
-    add_event_numbers(&string, &stamp, 0, which);
-    add_fault_in(&string, &stamp, which, fault);
+    add_faulty_event(&string, &stamp, which, fault);
     if (fault < FAULT_CUT) {
-        add_event_numbers(&string, &stamp, which + 1, event_numbers(&stamp));
         add_byte(&string, EVENT_TICK);
     }
     list_string(file, &string);

@@ -25,7 +25,8 @@ enum case_seed {
     SEED_READ_SHELF_EVENT = 18018,
     SEED_WRITE_SHELF_EVENT = 19019,
     SEED_PORT = 20020,
-    SEED_SHELF_RUN = 21021
+    SEED_SHELF_RUN = 21021,
+    SEED_SHELF_LISTING = 22022
 };
 
 static bool open_cases(struct case_file *file, const char *folder, const char *program)
@@ -129,6 +130,22 @@ static bool make_shelf_cases(const char *folder)
     return close_cases(&file);
 }
 
+static bool make_shelf_listings(const char *folder, const char *shelf_traces)
+{
+    struct case_file file;
+
+    if (!open_cases(&file, folder, "shelf_listing_cases")) {
+        return false;
+    }
+    file.random = SEED_SHELF_LISTING;
+    make_shelf_listing_cases(&file);
+    make_hand_out_listing_cases(&file);
+
+    bool named = make_named_shelf_listing_cases(&file, shelf_traces);
+
+    return close_cases(&file) && named;
+}
+
 static bool make_lister_trace(const char *folder)
 {
     struct case_file file;
@@ -143,15 +160,16 @@ static bool make_lister_trace(const char *folder)
 
 int main(int argc, char **argv)
 {
-    if (argc != 3) {
-        fputs("usage: make_cases FOLDER TRACES\n", stderr);
+    if (argc != 4) {
+        fputs("usage: make_cases FOLDER TRACES SHELF_TRACES\n", stderr);
         return EXIT_FAILURE;
     }
 
     bool machines = make_machine_cases(argv[1]);
     bool traces = make_trace_cases(argv[1], argv[2]);
     bool shelf = make_shelf_cases(argv[1]);
+    bool shelf_listings = make_shelf_listings(argv[1], argv[3]);
     bool lister = make_lister_trace(argv[1]);
 
-    return machines && traces && shelf && lister ? EXIT_SUCCESS : EXIT_FAILURE;
+    return machines && traces && shelf && shelf_listings && lister ? EXIT_SUCCESS : EXIT_FAILURE;
 }
