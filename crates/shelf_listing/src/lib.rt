@@ -81,11 +81,12 @@ fn turned(shelf: Shelf, event: ShelfEvent) -> Turn
     let mut queue = shelf.queue;
     let r = step_row(shelf.row, phys, &mut queue, number, event.event);
     let row = r.row;
+    let stepped = r.stepped;
     let held = queue::judged(&queue);
     let states = states_at(row, phys, number);
     Turn {
         shelf: Shelf { row, phys, queue },
-        columns: columns_of(event, r.stepped, states, held.waiting),
+        columns: columns_of(event, stepped, states, held.waiting),
     }
 }
 

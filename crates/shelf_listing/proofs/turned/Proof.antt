@@ -21,15 +21,16 @@ row c =
 
 returns : tie.Need-returns
 returns c =
-    let steps = c .before .before .before .before .before .before .step-row .ensures .steps in
-    let states = c .before .states-at .ensures ∙ ap (λ (bays : List Bay). statesAt bays (c .before .before .before .before .before .before .before .before .before .args .event .number)) (steps .row-left) in
+    let steps = c .before .before .before .before .before .before .before .step-row .ensures .steps in
+    let states = c .before .states-at .ensures ∙ ap (λ (bays : List Bay). statesAt bays (c .before .before .before .before .before .before .before .before .before .before .args .event .number)) (steps .row-left) in
     let waiting = ap (λ (j : Judgement). j .waiting) (c .before .before .judged .ensures) ∙ ap (λ (q : List ℕ). length (queueIn q)) (steps .queue-left) in
     record {
-      shelf = λ i. record { row = record { bays = row ((c .before .before .before .before .before .before)) i }; phys = c .before .before .before .before .before .before .before .before .before .args .shelf .phys; queue = steps .queue-left i };
-      columns = c .columns-of .ensures ∙ (λ i. columnsOf (c .before .before .before .before .before .before .before .before .before .args .event) (steps .says i) (states i) (waiting i));
+      shelf = λ i. record { row = record { bays = row ((c .before .before .before .before .before .before .before)) i }; phys = c .before .before .before .before .before .before .before .before .before .before .args .shelf .phys; queue = steps .queue-left i };
+      columns = c .columns-of .ensures ∙ (λ i. columnsOf (c .before .before .before .before .before .before .before .before .before .before .args .event) (steps .says i) (states i) (waiting i));
     }
 
 pub turned-spec : {M : Type 1} → statement M
 turned-spec =
     tie.close
     (tie.spec (λ c. search needs) (λ _ _. tt) (λ c. search needs) (λ _ _. tt) (λ _ _. tt) (λ _ _. tt) returns)
+
