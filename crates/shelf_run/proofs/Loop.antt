@@ -6,12 +6,11 @@ use mathlib.Core.Path.{_≡_, refl, sym, ap, subst, _∙_}
 use native.Mathlib.Nat.{le-of-suc-le-suc, not-suc-le-zero}
 use native.Mathlib.Numerals.{add-one}
 use native.Mathlib.Omega.{arith}
-use borrow.Author.Tests.{le-leb, lt-leb, ltb-true}
+use borrow.Author.Tests.{ltb-true}
 use lib.Dec.{eqb, ltb}
 use lib.ListN.{length, set, getD, length-set}
 use lib.Seq.{sets}
 use Rattle.table.specs.Choice.{pick}
-use Rattle.table.specs.Results.{Leaves}
 use Rattle.table.proofs.Laws.{by-pick, parts}
 use Rattle.event.specs.Names.{txOpen}
 use Rattle.event.specs.Table.{openOf}
@@ -22,9 +21,8 @@ use Rattle.bay.specs.Step.{moveOf}
 use Rattle.bay.specs.declared.Bay.{Bay}
 use Rattle.bay.specs.declared.Stepped.{Stepped as BayStepped}
 use Rattle.queue.proofs.Long.{stay-long}
-use Rattle.shelf.specs.Reading.{ToldShelf, shelfEvent, shelfRefused, readShelf}
-use Rattle.shelf.proofs.First.{at-end}
-use Rattle.run.specs.Running.{Halt, atEnd, atBudget, atFault}
+use Rattle.shelf.specs.Reading.{ToldShelf, shelfEvent, shelfEnd, shelfRefused, readShelf}
+use Rattle.run.specs.Running.{Halt, atEnd, atFault}
 use Rattle.queue.specs.Lent.{mostWaiting}
 use Rattle.port.specs.Names.{mostPhys}
 use Rattle.port.specs.Step.{reportsOf, isPorts}
@@ -33,9 +31,9 @@ use Rattle.port.specs.Stages.{someFree, concerned, handOn, onMoved, onPort, tak
 use Rattle.port.specs.declared.Reports.{Reports}
 use Rattle.port.specs.declared.Standing.{Standing}
 use Rattle.port.specs.declared.Taken.{Taken}
-use Rattle.shelf_run.specs.Running.{ran}
+use Rattle.shelf_run.specs.Running.{spentAt, ran}
 use Rattle.shelf_run.specs.Stages.{inUse, Went, rests, byteIn, takes, puts, goesOn, byRead, going, gone}
-use Rattle.shelf_run.specs.Contracts.{Through}
+use Rattle.shelf_run.specs.Contracts.{TakesOne, Through}
 use Rattle.shelf_run.specs.declared.Gone.{Gone}
 
 -- ---- the queue stays as long
@@ -58,7 +56,7 @@ port-long s b queue e =
     (λ _. by-pick (Long queue) (someFree (s .free)) (λ _. refl) (λ _. stay-long queue (s .waiting) .joined (openOf e)))
     (λ _. refl)
 
-taken-long : (s : Standing) (b : Bay) (queue : List ℕ) (number : ℕ) (e : Event) → Long queue (takenOf s b queue number e)
+pub taken-long : (s : Standing) (b : Bay) (queue : List ℕ) (number : ℕ) (e : Event) → Long queue (takenOf s b queue number e)
 unfolding takenOf
 taken-long s b queue number e =
     by-pick (Long queue) (isPorts number)
@@ -139,33 +137,30 @@ module _ {whole : Went} {lent s : List ℕ} {budget : ℕ} {before : List ℕ} {
       subst (λ (x : Standing × (List Bay × (List ℕ × List ℕ))). Stage whole lent s budget before (x .0) (x .1 .0) (x .1 .1 .0) next n (x .1 .1 .1)) (λ i. (p i, (q i, (r i, t i)))) v
 
   module _ (h : count < budget) {e : ShelfEvent} {next : ℕ} (r : readShelf s place ≡ shelfEvent e next) (at : ℕ) (a : at ≡ concerned (st .free) (e .number)) where
-    -- as the code takes it: by a record, to what it makes of it, the queue and the byte
+    -- as the code takes it: by a record, to what it makes of it, the queue and the buffer
     stage-taken : (b : Bay) → takes st bays queue e at ≡ takenOf st b queue (e .number) (e .event)
-        → (t : Taken) (after : List ℕ) → Leaves t (takenOf st b queue (e .number) (e .event) .taken) after (takenOf st b queue (e .number) (e .event) .queue)
-        → (byte : ℕ) → byte ≡ byteIn (t .stepped .reports)
-        → Stage whole lent s budget before (t .standing) (puts st bays at (t .bay)) after next (count + 1) (set buffer count byte)
-    stage-taken b q t after l byte y =
-        let m : takes st bays queue e at .taken ≡ t = ap (λ (c : port.Course). c .taken) q ∙ sym (l .says) in
-        same-stage (ap (λ (x : Taken). x .standing) m) (ap (λ (x : Taken). puts st bays at (x .bay)) m) (ap (λ (c : port.Course). c .queue) q ∙ sym (l .leaves))
-        (ap (set buffer count) (ap (λ (x : Taken). byteIn (x .stepped .reports)) m ∙ sym y))
+        → (t : Taken) (after out : List ℕ) → TakesOne st b queue e buffer count t after out
+        → Stage whole lent s budget before (t .standing) (puts st bays at (t .bay)) after next (count + 1) out
+    stage-taken b q t after out l =
+        let m : takes st bays queue e at .taken ≡ t = ap (λ (c : port.Course). c .taken) q ∙ sym (l .takes .says) in
+        same-stage (ap (λ (x : Taken). x .standing) m) (ap (λ (x : Taken). puts st bays at (x .bay)) m) (ap (λ (c : port.Course). c .queue) q ∙ sym (l .takes .leaves))
+        (ap (λ (x : Taken). set buffer count (byteIn (x .stepped .reports))) m ∙ sym (l .byte))
         (stage-on h r at a (takes st bays queue e at) refl)
 
     -- by the record of a phy of the port, which is put back
-    pub stage-phy : inUse st at ≡ true → (d : Bay) (t : Taken) (after : List ℕ)
-        → Leaves t (takenOf st (getD bays at d) queue (e .number) (e .event) .taken) after (takenOf st (getD bays at d) queue (e .number) (e .event) .queue)
-        → (byte : ℕ) → byte ≡ byteIn (t .stepped .reports)
-        → Stage whole lent s budget before (t .standing) (set bays at (t .bay)) after next (count + 1) (set buffer count byte)
-    stage-phy u d t after l byte y =
+    pub stage-phy : inUse st at ≡ true → (d : Bay) (t : Taken) (after out : List ℕ) → TakesOne st (getD bays at d) queue e buffer count t after out
+        → Stage whole lent s budget before (t .standing) (set bays at (t .bay)) after next (count + 1) out
+    stage-phy u d t after out l =
         let there : getD bays at freshBay ≡ getD bays at d = any-else bays at freshBay d (omega (arith, in-table st at u, w .tabled)) in
-        subst (λ (x : Bool). Stage whole lent s budget before (t .standing) (pick x (set bays at (t .bay)) bays) after next (count + 1) (set buffer count byte)) u
-        (stage-taken (getD bays at d) (rw u (ap (λ (b : Bay). takenOf st b queue (e .number) (e .event)) there)) t after l byte y)
+        subst (λ (x : Bool). Stage whole lent s budget before (t .standing) (pick x (set bays at (t .bay)) bays) after next (count + 1) out) u
+        (stage-taken (getD bays at d) (rw u (ap (λ (b : Bay). takenOf st b queue (e .number) (e .event)) there)) t after out l)
 
     -- by a fresh one in the stead of none
-    pub stage-other : inUse st at ≡ false → (t : Taken) (after : List ℕ)
-        → Leaves t (takenOf st freshBay queue (e .number) (e .event) .taken) after (takenOf st freshBay queue (e .number) (e .event) .queue)
-        → (byte : ℕ) → byte ≡ byteIn (t .stepped .reports)
-        → Stage whole lent s budget before (t .standing) bays after next (count + 1) (set buffer count byte)
-    stage-other u t after l byte y = subst (λ (x : Bool). Stage whole lent s budget before (t .standing) (pick x (set bays at (t .bay)) bays) after next (count + 1) (set buffer count byte)) u (stage-taken freshBay (rw u refl) t after l byte y)
+    pub stage-other : inUse st at ≡ false → (t : Taken) (after out : List ℕ) → TakesOne st freshBay queue e buffer count t after out
+        → Stage whole lent s budget before (t .standing) bays after next (count + 1) out
+    stage-other u t after out l =
+        subst (λ (x : Bool). Stage whole lent s budget before (t .standing) (pick x (set bays at (t .bay)) bays) after next (count + 1) out) u
+        (stage-taken freshBay (rw u refl) t after out l)
 
   -- nothing more is taken
   pub stopped-at : {halt : Halt} → going (w .left) s place st bays queue ≡ rests bays queue halt → (r : Gone) → r ≡ gone bays (ran count halt) → Through whole before r queue buffer
@@ -178,18 +173,13 @@ module _ {whole : Went} {lent s : List ℕ} {budget : ℕ} {before : List ℕ} {
       }
 
   -- by the end
-  ended : (n : ℕ) → length s ≤ place → going n s place st bays queue ≡ rests bays queue atEnd
-  unfolding going
-  ended zero h = rw (le-leb (length s) place h) refl
-  ended (suc n) h = rw (at-end s place h) refl
+  pub stop-end : count < budget → readShelf s place ≡ shelfEnd → (r : Gone) → r ≡ gone bays (ran count atEnd) → Through whole before r queue buffer
+  stop-end h f r e = stopped-at (by-read h f) r e
 
-  pub stop-end : length s ≤ place → (r : Gone) → r ≡ gone bays (ran count atEnd) → Through whole before r queue buffer
-  stop-end h r e = stopped-at (ended (w .left) h) r e
-
-  -- by the budget
-  pub stop-budget : budget ≤ count → place < length s → (r : Gone) → r ≡ gone bays (ran count atBudget) → Through whole before r queue buffer
+  -- by the budget, or by the end where it is spent there
+  pub stop-spent : budget ≤ count → (r : Gone) → r ≡ gone bays (ran count (spentAt place (length s))) → Through whole before r queue buffer
   unfolding going
-  stop-budget b h r e = stopped-at {halt = atBudget} (ap (λ (n : ℕ). going n s place st bays queue) none ∙ rw (lt-leb (length s) place h) refl) r e
+  stop-spent b r e = stopped-at (ap (λ (n : ℕ). going n s place st bays queue) none) r e
     where
       none : w .left ≡ zero
       none = omega (arith, w .spent)

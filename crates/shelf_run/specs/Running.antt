@@ -40,9 +40,13 @@ onwards (shelfEvent e next) rest = first e (rest next)
 onwards shelfEnd rest = stops atEnd
 onwards (shelfRefused n at) rest = stops (atFault n at)
 
+-- the budget is spent at a place: the end is looked for first
+abbrev pub spentAt : (place long : ℕ) → Halt
+spentAt place long = pick (leb long place) atEnd atBudget
+
 -- the events from a place on under a budget; the end is looked for first, then the budget, then a fault
 unfoldable pub taking : (budget : ℕ) → List ℕ → ℕ → Course
-taking zero s place = stops (pick (leb (length s) place) atEnd atBudget)
+taking zero s place = stops (spentAt place (length s))
 taking (suc budget) s place = onwards (readShelf s place) (taking budget s)
 
 -- a byte for each event: its refusal, or else the answer of its phy, or else 0

@@ -12,7 +12,7 @@ use Rattle.event.specs.declared.ShelfEvent.{ShelfEvent}
 use Rattle.bay.specs.State.{freshBay}
 use Rattle.bay.specs.declared.Bay.{Bay}
 use Rattle.shelf.specs.Reading.{ToldShelf, shelfEvent, shelfEnd, shelfRefused, readShelf}
-use Rattle.run.specs.Running.{Halt, atEnd, atBudget, atFault, refused, byteFor}
+use Rattle.run.specs.Running.{Halt, atEnd, atFault, refused, byteFor}
 use Rattle.port.specs.Names.{mostPhys}
 use Rattle.port.specs.Stages as port
 use Rattle.port.specs.Stages.{soundScan, standingIn, concerned, takenOf}
@@ -20,7 +20,7 @@ use Rattle.port.specs.declared.Reports.{Reports}
 use Rattle.port.specs.declared.Scan.{Scan}
 use Rattle.port.specs.declared.Standing.{Standing}
 use Rattle.shelf_run.specs.Rows.{fronted}
-use Rattle.shelf_run.specs.Running.{unset, ran}
+use Rattle.shelf_run.specs.Running.{unset, spentAt, ran}
 use Rattle.shelf_run.specs.declared.Gone.{Gone}
 use Rattle.shelf_run.specs.declared.Ran.{Ran}
 use Rattle.shelf_run.specs.declared.Table.{Table}
@@ -80,7 +80,7 @@ byRead (shelfRefused n at) s bays queue rest = rests bays queue (atFault n at)
 
 -- the events from a place on under a budget
 unfoldable pub going : (budget : ℕ) → (s : List ℕ) → (place : ℕ) → Standing → List Bay → List ℕ → Went
-going zero s place st bays queue = rests bays queue (pick (leb (length s) place) atEnd atBudget)
+going zero s place st bays queue = rests bays queue (spentAt place (length s))
 going (suc budget) s place st bays queue = byRead (readShelf s place) st bays queue (going budget s)
 
 -- ---- a whole run

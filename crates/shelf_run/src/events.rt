@@ -1,20 +1,22 @@
 // The events of a run, one after the other. The records stand in a table, and only the one that an event
 // concerns is read and put back.
-ghost use Prim.Native.Nat.{_≤_};
+ghost use Prim.Native.Nat.{_≤_, _<_};
 ghost use mathlib.Core.Path.{_≡_};
 ghost use lib.ListN.{length};
 ghost use Rattle.run.specs.Running.{tellsStop};
-ghost use Rattle.shelf_run.specs.Running.{unset as Running·unset, ran as Running·ran};
+ghost use Rattle.shelf_run.specs.Running.{unset as Running·unset, spentAt, ran as Running·ran};
 ghost use Rattle.shelf_run.specs.Stages.{empty as Stages·empty, allUnset, byteIn, gone};
-ghost use Rattle.shelf_run.specs.Contracts.{TakesEvents, GoesOver};
+ghost use Rattle.shelf_run.specs.Contracts.{TakesOne, TakesEvents, GoesOver};
 use crate::Gone;
 use crate::Ran;
 use crate::Table;
 use bay::Bay;
+use event::ShelfEvent;
 use port::MOST_PHYS;
 use port::Scan;
 use port::Standing;
 use port::Stepped;
+use port::Taken;
 use replies::stop_reply;
 use run::Stop;
 use shelf::ShelfRead;
@@ -79,6 +81,34 @@ fn stopped(table: Table, count: usize, stop: Stop) -> Gone
     }
 }
 
+// How a run stops whose budget is spent. The end comes first: a trace that ends with its last event taken has
+// ended.
+fn spent(table: Table, count: usize, place: usize, length: usize) -> Gone
+    ensures { λ r. ⌜ r ≡ gone (table .bays) (Running·ran count (spentAt place length)) ⌝ }
+{
+    if place < length {
+        return stopped(table, count, Stop::Budget);
+    }
+    stopped(table, count, Stop::End)
+}
+
+// An event, by one record, and its byte at a place of the buffer.
+fn take_one(
+    standing: Standing,
+    own: Bay,
+    queue: &mut [u64],
+    event: ShelfEvent,
+    buffer: &mut [u8],
+    count: usize,
+) -> Taken
+    requires { ⌜ count < length (now buffer) ⌝ }
+    ensures { λ r. ⌜ TakesOne standing own (now (queue .entry)) event (now (buffer .entry)) count r (now (queue .exit)) (now (buffer .exit)) ⌝ }
+{
+    let taken = port::take(standing, own, queue, event.number, event.event);
+    buffer[count] = byte_in(taken.stepped);
+    taken
+}
+
 // The events of a trace under a budget that the buffer has room for. An event that concerns no phy of the port
 // takes a fresh record in its stead, which nobody sees.
 fn take_events(
@@ -99,22 +129,17 @@ fn take_events(
     while count < budget {
         match shelf::event_at(trace, place) {
             ShelfRead::Event { event, next } => {
-                let number = event.number;
-                let what = event.event;
-                let at = port::concerned(stands.free, number);
+                let at = port::concerned(stands.free, event.number);
                 place = next;
                 if ((at as u64) < stands.count) & (at < MOST_PHYS) {
-                    let taken = port::take(stands, table.bays[at], queue, number, what);
+                    let taken = take_one(stands, table.bays[at], queue, event, buffer, count);
                     let bay = taken.bay;
-                    buffer[count] = byte_in(taken.stepped);
                     table.bays[at] = bay;
                     stands = taken.standing;
                     count += 1;
                     continue;
                 }
-                let taken = port::take(stands, bay::fresh(), queue, number, what);
-                buffer[count] = byte_in(taken.stepped);
-                stands = taken.standing;
+                stands = take_one(stands, bay::fresh(), queue, event, buffer, count).standing;
                 count += 1;
             }
             ShelfRead::End => return stopped(table, count, Stop::End),
@@ -123,11 +148,7 @@ fn take_events(
             ShelfRead::TooLarge(first) => return stopped(table, count, Stop::TooLarge(first)),
         }
     }
-    // The end comes before the budget: a trace that ends with its last event taken has ended.
-    if place < trace.len() {
-        return stopped(table, count, Stop::Budget);
-    }
-    stopped(table, count, Stop::End)
+    spent(table, count, place, trace.len())
 }
 
 // A run over what was surveyed: the port is judged as given, then every base is unset.
