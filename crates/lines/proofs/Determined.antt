@@ -1,10 +1,16 @@
 -- Each result says one thing, so a contract that gives what is said gives the result.
+use Prim.Native.Nat.{ℕ}
+use mathlib.Core.Bool.{true, false}
+use mathlib.Core.List.{List}
 use mathlib.Core.Path.{_≡_, refl, sym, _∙_}
-use Rattle.table.specs.Results.{TellsOnce}
+use Rattle.table.specs.Results.{TellsOnce, DeterminesLent}
 use Rattle.table.proofs.Results.{leads-back, by-equation, by-result-lent}
+use Rattle.lines.specs.Lines.{endLine, stopLine, tooLongLine}
 use Rattle.lines.specs.Listing.{Next}
-use Rattle.lines.specs.Contracts.{ToldWritten, wrote, finished, refused, tellsWritten}
+use Rattle.lines.specs.Contracts.{ToldWritten, wrote, finished, refused, tellsWritten, PutsShort}
 use Rattle.lines.specs.Laws.{Determined, NextDetermined}
+use Rattle.lines.specs.declared.Progress.{Progress}
+use Rattle.lines.specs.declared.Progress.the-variants.{Done as Progress·Done}
 use Rattle.lines.specs.declared.LineWritten.{LineWritten}
 use Rattle.lines.specs.declared.LineWritten.the-variants.{Line, Done, NoRoom}
 
@@ -23,13 +29,18 @@ answers NoRoom = refl
 written-once : TellsOnce tellsWritten
 written-once = leads-back answer answers
 
+short-once : (line : List ℕ) (next : Progress) (before : List ℕ) (at : ℕ) → DeterminesLent (PutsShort line next before at)
+short-once line next before at = by-result-lent written-once (λ r after a. record { says = a .puts .says; leaves = a .puts .bytes })
+
 pub determined : Determined
 determined =
     record {
       written-once = written-once;
       start = λ length. by-equation _;
-      put-line = λ bytes next before at. by-result-lent written-once (λ r after a. record { says = a .says; leaves = a .bytes });
-      put-short = λ bytes next before at. by-result-lent written-once (λ r after a. record { says = a .puts .says; leaves = a .puts .bytes });
+      put-line = λ line next before at. by-result-lent written-once (λ r after a. record { says = a .says; leaves = a .bytes });
+      put-end = λ place count. short-once (endLine place count) (Progress·Done true);
+      put-stop = λ place refusal. short-once (stopLine place refusal) (Progress·Done false);
+      put-too-long = short-once tooLongLine (Progress·Done false);
     }
 
 pub next-determined : {S : Type 0} (n : Next S) → NextDetermined n

@@ -8,8 +8,10 @@ use lib.ListN.{length}
 use Rattle.table.specs.Refusals.{noRoom}
 use Rattle.table.specs.Results.{TellsOnce, Determines, DeterminesLent}
 use Rattle.lines.specs.Lines.{mostLine, endLine}
-use Rattle.lines.specs.Listing.{mostTrace, Found, found, nothing, Listable, Lists, Next, lineOf, noLine, startOf, lineAt}
+use Rattle.lines.specs.Listing.{mostTrace, Found, found, nothing, Listable, Lists}
+use Rattle.lines.specs.Listing.{Next, lineOf, noLine, startOf, lineAt}
 use Rattle.lines.specs.Contracts.{StartsListing, wrote, finished, refused, tellsWritten, PutsLine, PutsShort}
+use Rattle.lines.specs.Contracts.{PutsEnd, PutsStop, PutsTooLong}
 use Rattle.lines.specs.Contracts.{bytesOf, writeNext, bufferAfter, stateAfter, PutsNext, movedOn}
 use Rattle.lines.specs.declared.Progress.{Progress}
 use Rattle.lines.specs.declared.Progress.the-variants.{Header, Events, TooLong, Done}
@@ -23,8 +25,9 @@ pub record Determined : Type 0 where
   pub start : (length : ℕ) → Determines (StartsListing length)
   pub put-line :
       (bytes : List ℕ) (next : Progress) (before : List ℕ) (at : ℕ) → DeterminesLent (PutsLine bytes next before at)
-  pub put-short :
-      (bytes : List ℕ) (next : Progress) (before : List ℕ) (at : ℕ) → DeterminesLent (PutsShort bytes next before at)
+  pub put-end : (place count : ℕ) (before : List ℕ) (at : ℕ) → DeterminesLent (PutsEnd place count before at)
+  pub put-stop : (place refusal : ℕ) (before : List ℕ) (at : ℕ) → DeterminesLent (PutsStop place refusal before at)
+  pub put-too-long : (before : List ℕ) (at : ℕ) → DeterminesLent (PutsTooLong before at)
 
 -- the same of a function that writes what comes next: result, state and buffer
 abbrev pub NextDetermined : {S : Type 0} → Next S → Type 0
@@ -122,7 +125,8 @@ RoomEnough {S} m =
 -- its end
 pub data Lines {S E : Type 0} (m : Listable S E) (s : List ℕ) : Progress → S → (whole : Bool) → List ℕ → Type 0 where
   over :
-      {progress : Progress} {b : S} {whole : Bool} → lineAt m s progress b ≡ noLine whole → Lines m s progress b whole []
+      {progress : Progress} {b : S} {whole : Bool}
+      → lineAt m s progress b ≡ noLine whole → Lines m s progress b whole []
   more :
       {progress next : Progress} {b c : S} {whole : Bool} {bytes others : List ℕ}
       → lineAt m s progress b ≡ lineOf bytes next c → Lines m s next c whole others

@@ -20,10 +20,10 @@ use Rattle.listing.specs.Contracts.{WritesLine}
 -- ---- results are determined (proofs/Determined)
 
 -- two results that `next_line` may give coincide, as do the buffers that it may leave
-abbrev pub Determined : Type 0
-Determined =
-    (s : List ℕ) (progress : Progress) (b : Bay) (before : List ℕ) (at : ℕ)
-    → DeterminesLent (WritesLine s progress b before at)
+pub record Determined : Type 0 where
+  pub next-line :
+      (s : List ℕ) (progress : Progress) (b : Bay) (before : List ℕ) (at : ℕ)
+      → DeterminesLent (WritesLine s progress b before at)
 
 -- ---- the whole listing (proofs/Whole)
 

@@ -1,5 +1,4 @@
 -- What comes next determines shelf, result and buffer.
-use mathlib.Core.Path.{_≡_}
 use Rattle.table.proofs.Results.{by-equation}
 use Rattle.lines.specs.Listing.{lineAt}
 use Rattle.lines.proofs.Determined.{next-determined}
