@@ -8,7 +8,7 @@ use event::Event;
 use port::Stepped;
 
 // One more than a port may have, so that a port of too many can be held too.
-pub const MOST_HELD: usize = 9;
+pub const MOST_HELD: usize = port::MOST_PHYS + 1;
 
 pub struct Row {
     pub bays: [Bay; MOST_HELD],
