@@ -9,7 +9,8 @@ use lib.ListN.{length}
 use lib.Seq.{sets}
 use Rattle.table.specs.Choice.{pick}
 use Rattle.table.specs.Refusals.{noRoom}
-use Rattle.lines.specs.Lines.{mostLine, endLine, stopLine, tooLongLine}
+use Rattle.output.specs.Writing.{line}
+use Rattle.lines.specs.Lines.{mostLine, mostColumns, endLine, stopLine, tooLongLine}
 use Rattle.lines.specs.Listing.{Next, lineOf, noLine, startOf}
 use Rattle.lines.specs.declared.Progress.{Progress}
 use Rattle.lines.specs.declared.Progress.the-variants.{Done as Progress·Done}
@@ -59,6 +60,13 @@ pub record PutsShort (line : List ℕ) (next : Progress) (before : List ℕ) (at
   where
     pub puts : PutsLine line next before at r after
     pub short : length line ≤ mostLine
+
+-- `put_columns`, of a place and the numbers behind it; more than a line has are refused, and nothing changes
+abbrev pub PutsColumns :
+    (place : ℕ) → (columns : List ℕ) → (next : Progress) → List ℕ → ℕ → LineWritten → List ℕ → Type 0
+PutsColumns place columns next before at r after =
+    pick (leb (length columns) mostColumns) (PutsShort (line place columns) next before at r after)
+    ((r ≡ NoRoom) × (after ≡ before))
 
 -- and of a last one, after which nothing comes
 abbrev pub PutsLast : (line : List ℕ) → (whole : Bool) → List ℕ → ℕ → LineWritten → List ℕ → Type 0

@@ -11,7 +11,7 @@ use Rattle.lines.specs.Lines.{mostLine, endLine}
 use Rattle.lines.specs.Listing.{mostTrace, Found, found, nothing, Listable, Lists}
 use Rattle.lines.specs.Listing.{Next, lineOf, noLine, startOf, lineAt}
 use Rattle.lines.specs.Contracts.{StartsListing, wrote, finished, refused, tellsWritten, PutsLine, PutsShort}
-use Rattle.lines.specs.Contracts.{PutsEnd, PutsStop, PutsTooLong}
+use Rattle.lines.specs.Contracts.{PutsColumns, PutsEnd, PutsStop, PutsTooLong}
 use Rattle.lines.specs.Contracts.{bytesOf, writeNext, bufferAfter, stateAfter, PutsNext, movedOn}
 use Rattle.lines.specs.declared.Progress.{Progress}
 use Rattle.lines.specs.declared.Progress.the-variants.{Header, Events, TooLong, Done}
@@ -25,6 +25,9 @@ pub record Determined : Type 0 where
   pub start : (length : ℕ) → Determines (StartsListing length)
   pub put-line :
       (bytes : List ℕ) (next : Progress) (before : List ℕ) (at : ℕ) → DeterminesLent (PutsLine bytes next before at)
+  pub put-columns :
+      (place : ℕ) (columns : List ℕ) (next : Progress) (before : List ℕ) (at : ℕ)
+      → DeterminesLent (PutsColumns place columns next before at)
   pub put-end : (place count : ℕ) (before : List ℕ) (at : ℕ) → DeterminesLent (PutsEnd place count before at)
   pub put-stop : (place refusal : ℕ) (before : List ℕ) (at : ℕ) → DeterminesLent (PutsStop place refusal before at)
   pub put-too-long : (before : List ℕ) (at : ℕ) → DeterminesLent (PutsTooLong before at)

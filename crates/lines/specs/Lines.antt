@@ -8,6 +8,10 @@ use Rattle.lines.specs.Words.{ascii}
 abbrev pub mostLine : ℕ
 mostLine = 231
 
+-- the line of an event has no more numbers behind its place
+abbrev pub mostColumns : ℕ
+mostColumns = 10
+
 -- a number behind each of two words
 abbrev pub lastLine : (word : List ℕ) → (place : ℕ) → (other : List ℕ) → (n : ℕ) → List ℕ
 lastLine word place other n = word ++ (more (place ∷ []) ++ (other ++ (more (n ∷ []) ++ (newline ∷ []))))

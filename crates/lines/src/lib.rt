@@ -3,15 +3,19 @@
 ghost use Prim.Native.Nat.{_+_, _≤_};
 ghost use lib.ListN.{length};
 ghost use Rattle.lines.specs.Lines.{mostLine, lastLine};
-ghost use Rattle.lines.specs.Contracts.{StartsListing, PutsLine, PutsLast, PutsEnd, PutsStop, PutsTooLong};
+ghost use Rattle.lines.specs.Contracts.{StartsListing, PutsLine, PutsColumns, PutsLast, PutsEnd, PutsStop, PutsTooLong};
 use output::put_all;
 use output::put_more;
+use output::put_numbers;
 
 // A longer trace is not listed.
 pub const MOST_TRACE: usize = 65536;
 
 // The longest line: eleven numbers, each with the byte after it.
-pub const MOST_LINE: usize = 231;
+const MOST_LINE: usize = 231;
+
+// The line of an event has no more numbers behind its place.
+const MOST_COLUMNS: usize = 10;
 
 // What the next line is of: the header, what stands at a place of the trace, a trace that is too long,
 // or nothing more, the trace having been listed to its end or not.
@@ -55,9 +59,28 @@ pub fn put_line(line: &[u8], next: Progress, out: &mut [u8], at: usize) -> LineW
     LineWritten::Line { next, length }
 }
 
+// The line of an event: its place, and the numbers behind it. It is made in an array of its own, so that its
+// length is known before a byte of the caller's buffer changes.
+pub fn put_columns(
+    place: usize,
+    columns: &[u64],
+    next: Progress,
+    out: &mut [u8],
+    at: usize,
+) -> LineWritten
+    ensures { λ r. ⌜ PutsColumns place (now (columns .entry)) next (now (out .entry)) at r (now (out .exit)) ⌝ }
+{
+    if MOST_COLUMNS < columns.len() {
+        return LineWritten::NoRoom;
+    }
+    let mut line = [0u8; MOST_LINE];
+    let end = put_numbers(&mut line, 0, place as u64, columns);
+    let length = put_all(&mut line, end, b"\n");
+    put_line(&line[..length], next, out, at)
+}
+
 // The last line: a place and a number, each behind its word. Both numbers and the newline take 43 bytes
-// at most. It is made in an array of its own, so that its length is known before a byte of the caller's
-// buffer changes.
+// at most.
 fn put_last(
     word: &[u8],
     place: usize,

@@ -7,11 +7,8 @@ use bay::Stepped;
 use bay::last_notice;
 use event::Event;
 use lines::LineWritten;
-use lines::MOST_LINE;
 use lines::Progress;
-use lines::put_line;
-use output::put_all;
-use output::put_numbers;
+use lines::put_columns;
 
 pub(crate) fn columns_of(event: Event, stepped: Stepped) -> Columns
     ensures { λ r. ⌜ r ≡ columnsOf event stepped ⌝ }
@@ -50,8 +47,5 @@ pub(crate) fn put_event(
         columns.link,
         columns.port,
     ];
-    let mut line = [0u8; MOST_LINE];
-    let end = put_numbers(&mut line, 0, place as u64, &others);
-    let length = put_all(&mut line, end, b"\n");
-    put_line(&line[..length], next, out, at)
+    put_columns(place, &others, next, out, at)
 }

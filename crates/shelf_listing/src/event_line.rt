@@ -9,11 +9,8 @@ use event::ShelfEvent;
 use held::MOST_HELD;
 use held::Row;
 use lines::LineWritten;
-use lines::MOST_LINE;
 use lines::Progress;
-use lines::put_line;
-use output::put_all;
-use output::put_numbers;
+use lines::put_columns;
 use port::Reports;
 use port::Stepped;
 
@@ -93,8 +90,5 @@ pub(crate) fn put_event(
         columns.handed,
         columns.waiting,
     ];
-    let mut line = [0u8; MOST_LINE];
-    let end = put_numbers(&mut line, 0, place as u64, &others);
-    let length = put_all(&mut line, end, b"\n");
-    put_line(&line[..length], next, out, at)
+    put_columns(place, &others, next, out, at)
 }
