@@ -7,6 +7,7 @@ function scalar(type) {
     if (type == "usize") return "size_t"
     if (type == "&[u8]") return "const uint8_t *, size_t"
     if (type == "&mut [u8]") return "uint8_t *, size_t"
+    if (type == "&mut [u64]") return "uint64_t *, size_t"
     return ""
 }
 
@@ -19,9 +20,13 @@ function snake(name,    i, c, said) {
     return said
 }
 
+# Records that are lent, of one that is written out.
+function lent(said) { return "{" said "} *" }
+
 # A type of a crate, written out.
 function of_crate(crate, type,    full, part, i, n, said) {
     if (scalar(type) != "") return scalar(type)
+    if (type ~ /^&mut \[[A-Za-z]+\]$/) return lent(of_crate(crate, substr(type, 7, length(type) - 7))) ", size_t"
     full = type ~ /::/ ? type : (crate "::" type) in fields ? crate "::" type : used[crate, type]
     if (!(full in fields)) return "no record " type
     sub(/::.*/, "", full)
@@ -35,6 +40,8 @@ function of_crate(crate, type,    full, part, i, n, said) {
 
 # A type of the header, written out.
 function of_header(type,    part, i, n, said) {
+    if (type ~ / [*]$/ && substr(type, 1, length(type) - 2) in members)
+        return lent(of_header(substr(type, 1, length(type) - 2)))
     if (!(type in members)) return type
     n = split(members[type], part, ",")
     for (i = 1; i < n; i += 2)

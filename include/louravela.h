@@ -1,20 +1,24 @@
 /*
  * The port code of a SAS shelf for C99 and C++: one phy (link and port), a bay (a phy with its recorder's clock),
- * dword synchronization, identification, and the events of a trace. The archives are for x86-64; link those you call:
+ * a port (up to eight bays and the Opens that wait), dword synchronization, identification, and the events of a trace.
+ * The archives are for x86-64; link those you call:
  *
  *     liblouravela.a          all but the functions below
  *     liblouravela_step.a     louravela_phy_step
  *     liblouravela_bay.a      louravela_bay_step
+ *     liblouravela_port.a     louravela_port_step
  *     liblouravela_run.a      louravela_phy_run
+ *     liblouravela_shelf.a    louravela_port_run
  *     liblouravela_number.a   louravela_number_read, louravela_number_write
  *
  * Every function takes any numbers and returns. What it does not take it refuses by number: the state
  * comes back as given and every other report is zero. Each result is proved to be the one that the
  * definitions give; what is not proved is what only a caller can see to:
  *
- *   - a pointer is to that many bytes that may be read, or written where they are lent to be written,
- *     and is not null, also where the length is 0;
- *   - the trace and the buffer of a run do not overlap.
+ *   - a pointer is to that many bytes, numbers or records, aligned as C has them, that may be read, or
+ *     written where they are lent to be written, and is not null, also where the length is 0;
+ *   - what is lent to one call, its row, queue, trace and buffer, does not overlap, and nobody else
+ *     touches it until the call returns.
  *
  * No function keeps a pointer, allocates, or has a state of its own, so any thread may call any of them. Those that
  * write an event or a number need at most 256 bytes of stack, their arguments among them.
@@ -45,7 +49,9 @@ enum {
     LOURAVELA_CUT = 7,             /* a number's bytes end too early */
     LOURAVELA_OVERLONG = 8,        /* no longer given, since a number may be padded; 8 stays taken */
     LOURAVELA_TOO_LARGE = 9,       /* a number is 2^64 or more */
-    LOURAVELA_NO_ROOM = 10         /* the lent buffer is too short */
+    LOURAVELA_NO_ROOM = 10,        /* the lent buffer is too short */
+    LOURAVELA_QUEUE_FULL = 11,     /* Tx Open to the port itself, and 32 Opens wait */
+    LOURAVELA_NO_SUCH_PHY = 12     /* a number that neither a phy of the port nor the port itself has */
 };
 
 /* ---- The phy ---- */
@@ -92,7 +98,7 @@ enum {
     LOURAVELA_TICK = 13,
     LOURAVELA_HARD_RESET = 14,
     LOURAVELA_PHY_DISABLED = 15,
-    LOURAVELA_TIME_STAMP = 16           /* counter to 4,294,967,295; of bays and runs, a phy alone refuses it */
+    LOURAVELA_TIME_STAMP = 16           /* counter to 4,294,967,295; of bays, ports and runs, a phy alone refuses it */
 };
 
 /* Answers to an Open; 0 says that there is none yet. */
@@ -258,6 +264,83 @@ struct louravela_run_reply {
  */
 struct louravela_run_reply louravela_phy_run(struct louravela_phy phy, const uint8_t *trace, size_t trace_length,
                                              size_t budget, uint8_t *buffer, size_t buffer_length);
+
+/* ---- A port: one to eight bays in a row, and the Opens that wait for a free phy ---- */
+
+enum {
+    LOURAVELA_MOST_PHYS = 8,
+    LOURAVELA_MOST_WAITING = 32,
+    LOURAVELA_QUEUE_NUMBERS = 192, /* lent as a queue, however many Opens wait */
+    LOURAVELA_THE_PORT = 127,      /* in the place of a phy's number: the port itself */
+    LOURAVELA_HANDED_TO_NONE = 127 /* in the place of a phy's number: no phy received an Open */
+};
+
+/*
+ * A port has no record of its own. Its caller keeps a row of bays and a queue, and lends both to each call, which
+ * changes them where they are. A bay's place in the row, from 0, is the number of its phy. A queue has six numbers
+ * for each Open that waits, in the order of struct louravela_open, the oldest Open first, and zeros behind the last.
+ * A fresh port is a row of what louravela_bay_fresh gives, with a queue of zeros.
+ *
+ * After every event, while an Open waits and a phy is free, in P1 with L0, the oldest Open is handed to the
+ * lowest-numbered free phy, as a Tx Open with the wait that it came with: in a queue no wait grows. So the port hands
+ * out the Opens that it accepts in their order, each at most once, and at most one behind an event. Its caller knows
+ * which: the oldest that waits, or where none does, the one that the event brings.
+ *
+ * A bad state is: a row of no bays or of more than eight; one with a bay that is no valid one; a queue of other than
+ * 192 numbers, with an argument of an Open out of its range, or with a number behind the last Open that is not zero;
+ * and an Open that waits beside a free phy.
+ */
+
+/* What the event itself reports, as of a bay. */
+struct louravela_port_reports {
+    struct louravela_open answered; /* the arguments of the Open that is answered; zero without an answer */
+    struct louravela_report answer;
+    struct louravela_report notice;
+    struct louravela_report second_notice;
+    struct louravela_report sent;
+    uint64_t refusal;               /* 0 to 6, 11 or 12 */
+};
+
+/* What a step gives. An answer is to the Open that the event's phy had before: the hand-out follows the whole event. */
+struct louravela_port_stepped {
+    struct louravela_port_reports reports; /* zero for a Tx Open that the port accepts */
+    uint64_t handed;                       /* the phy that then received an Open; 127 where none did */
+    uint64_t handed_sent;                  /* and what that phy sent, an OPEN; else 0 */
+};
+
+/*
+ * One event, for the phy with this number or, with 127, for the port itself, to which only a Tx Open may go. A Tx
+ * Open for a phy goes straight to it, past the queue. No other record changes but that of a phy that receives an
+ * Open. Refused in this order: 1; 2, also for any other event to the port; 12; 11; then 3 to 6. Refused, every byte
+ * lent is as it was, and 127 stands for the phy that received an Open. Each call judges the row and the queue, so it
+ * costs more with more phys; a run judges them once.
+ */
+struct louravela_port_stepped louravela_port_step(struct louravela_bay *row, size_t row_length, uint64_t *queue,
+                                                  size_t queue_length, uint64_t number, struct louravela_event event);
+
+/*
+ * What a run gives besides what it leaves in the row, the queue and the buffer. `refusal` is looked at first: a
+ * refused run took nothing, every byte lent is as it was, and every other field is zero, `how` too.
+ */
+struct louravela_port_run_reply {
+    size_t count;     /* events taken; a refused event counts as taken */
+    uint64_t how;     /* where nothing is refused */
+    uint64_t fault;   /* stopped at a fault: its number, 2, 7 or 9, else 0 */
+    size_t place;     /* and the place of the event's first byte, where its phy's number begins, else 0 */
+    uint64_t refusal; /* 0, 1 or 10 */
+};
+
+/*
+ * The events of a shelf trace, each behind the number of its phy; any number is read there, and the port judges it.
+ * The run stops as louravela_phy_run does, and writes a byte for each event: its refusal, or else the answer of its
+ * own phy, or else 0. Later bytes keep their values. It refuses 1, then 10 where the buffer is shorter than the
+ * budget. The base of every bay begins unset in each run. A run that stops inside a trace keeps what the events
+ * before did. An event is written by louravela_number_write and then louravela_event_write; for a clock that goes on,
+ * read each by louravela_number_read and louravela_event_read, and take it by louravela_port_step.
+ */
+struct louravela_port_run_reply louravela_port_run(struct louravela_bay *row, size_t row_length, uint64_t *queue,
+                                                   size_t queue_length, const uint8_t *trace, size_t trace_length,
+                                                   size_t budget, uint8_t *buffer, size_t buffer_length);
 
 /* ---- Events of a trace ---- */
 
