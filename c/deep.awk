@@ -19,6 +19,8 @@ END {
     must(needs["deep_call"] >= needs["deep_300"] + 32, "deep_call passes 24 bytes to deep_300")
     must(needs["deep_switch"] >= needs["deep_300"] + 32, "deep_switch does so too")
     must(needs["odd_minus"] == 136, "odd_minus takes 128 bytes")
+    must(needs["odd_copy"] == 152, "odd_copy pushes a word and calls memcpy")
+    must(needs["odd_move"] == 136, "odd_move goes on in memmove")
     must(needs["odd_named"] == 16, "odd_named pushes a word in one of its cases")
     if (whole != "yes") exit wrong > 0
     must(needs["deep_300"] == frame["deep_300"], "the compiler has another figure for deep_300")

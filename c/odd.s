@@ -8,6 +8,18 @@ odd_minus:
         sub     $-128, %rsp
         ret
 
+# Functions of the C library, which no archive has: one is called with a word pushed, one is gone on in.
+        .globl  odd_copy
+odd_copy:
+        push    %rdi
+        call    memcpy@PLT
+        pop     %rdi
+        ret
+
+        .globl  odd_move
+odd_move:
+        jmp     memmove@PLT
+
 # It returns to what it was given.
         .globl  odd_target
 odd_target:

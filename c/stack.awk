@@ -4,12 +4,16 @@
 #
 # A function is followed from its first instruction along every jump, with the depth of the stack at each: the return
 # address, what is pushed, the frame, and what is touched below the stack pointer. A call adds what the called function
-# comes to; a jump into another function goes on there, at the same depth. What cannot be followed so is a fault.
+# comes to; a jump into another function goes on there, at the same depth. What cannot be followed so is a fault, but
+# for three functions of the C library: of them it is taken on trust that they keep to what BELOW allows.
 
 BEGIN {
     WORD = 8
     # By the conventions of the x86-64 a function may use so many bytes below its stack pointer.
     BELOW = 128
+    trusted["memcpy"]
+    trusted["memmove"]
+    trusted["memset"]
 }
 
 # ---- what objdump says
@@ -189,6 +193,14 @@ function failed(i, why) {
 # Whether a call or a jump goes where a register or a place in memory says.
 function through(i) { return args[i] ~ /^\*/ && kind[i] !~ /GOTPCREL/ }
 
+# Whether it goes to a function of the C library that is taken on trust.
+function toLibrary(i,    text) {
+    if (!(i in to) || through(i)) return 0
+    text = to[i]
+    sub(/[-+]0x[0-9a-f]+$/, "", text)
+    return text in trusted && !(text in global)
+}
+
 # The instruction that a call or a jump names.
 function named(i,    place, text) {
     text = i in to ? to[i] : args[i]
@@ -261,6 +273,10 @@ function goOn(todo, i) {
 
 function called(i, todo,    callee, before, pointer, deepest) {
     if (through(i)) return failed(i, "a call through a register or memory")
+    if (toLibrary(i)) {
+        goOn(todo, i)
+        return depth + WORD + BELOW
+    }
     callee = named(i)
     if (!callee) return 0
     if (callee in running) return failed(i, "recursion")
@@ -273,13 +289,14 @@ function called(i, todo,    callee, before, pointer, deepest) {
     return deepest
 }
 
-function jumped(i, todo,    n, list) {
-    if (!through(i)) later(todo, named(i))
+function jumped(i, todo,    n, list, deepest) {
+    if (toLibrary(i)) deepest = depth + BELOW
+    else if (!through(i)) later(todo, named(i))
     else if (!byTable(i)) failed(i, "a jump through a register or memory, and by no table of offsets")
     else if (index(" " targets[belongs[i]], " 0 ")) failed(i, "a table has an entry that is no instruction")
     else for (n = split(targets[belongs[i]], list, " "); n; n--) later(todo, list[n])
     if (op[i] !~ /^jmp/) goOn(todo, i)
-    return depth
+    return greater(depth, deepest)
 }
 
 # How deep an instruction comes; what may come after it is added to what is to be done.
