@@ -24,6 +24,12 @@ void expect(int line, const char *what, uint64_t got, uint64_t wanted)
     }
 }
 
+void expect_report(int line, const char *what, struct louravela_report report, uint64_t code, uint64_t tick)
+{
+    expect(line, what, report.code, code);
+    expect(line, "its tick", report.tick, tick);
+}
+
 struct louravela_event tx_open(uint64_t destination)
 {
     struct louravela_event event = {LOURAVELA_TX_OPEN, destination, LOURAVELA_SSP, 9, 300, 2, 0};
@@ -59,6 +65,7 @@ int main(void)
 {
     test_machines();
     test_bays();
+    test_shelf();
     test_traces();
     printf("test: %lu expectations, %lu failed\n", made, failed);
     return failed == 0 ? 0 : 1;

@@ -26,14 +26,6 @@ static struct louravela_bay_stepped after_gap(struct louravela_bay bay, uint32_t
     return louravela_bay_step(bay, stamp((uint32_t)(base + ticks)));
 }
 
-static void expect_report(int line, const char *what, struct louravela_report report, uint64_t code, uint64_t tick)
-{
-    expect(line, what, report.code, code);
-    expect(line, "its tick", report.tick, tick);
-}
-
-#define EXPECT_REPORT(report, code, tick) expect_report(__LINE__, #report, report, code, tick)
-
 /* Refused: the number, the state as given, every other report zero. */
 static void expect_bay_refused(int line, struct louravela_bay bay, struct louravela_event event, uint64_t refusal)
 {
