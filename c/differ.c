@@ -1,5 +1,5 @@
 /*
- * The archives against the reference, on seeded random walks: phys, bays, traces, numbers and the two other
+ * The archives against the reference, on seeded random walks: phys, bays, shelves, traces, numbers and the two other
  * machines, valid, damaged and invalid.
  *
  *   differ ROUNDS [FIRST]   rounds with the seeds FIRST, FIRST + 1, ..; a difference is printed with its seed,
@@ -18,6 +18,7 @@ enum {
     PHY_FIELDS = sizeof(struct louravela_phy) / sizeof(uint64_t),
     EVENT_FIELDS = sizeof(struct louravela_event) / sizeof(uint64_t),
     TRACES = 6,
+    SHELF_ROUNDS = 1000, /* shelves take longer than all else in a round, and these are a million events */
     MOST_SHOWN = 20
 };
 
@@ -143,11 +144,10 @@ static uint64_t random_wait(void)
     return one_in(3) ? 65530 + random_below(6) : random_any() % 65536;
 }
 
-struct louravela_event known_event(void)
+struct louravela_event known_event_of(uint64_t code)
 {
-    struct louravela_event event = {0};
+    struct louravela_event event = event_of(code);
 
-    event.code = 1 + random_below(16);
     if (event.code == LOURAVELA_TX_OPEN || event.code == LOURAVELA_OPEN_RECEIVED) {
         event.first = one_in(2) ? random_below(3) : random_any();
         event.second = random_below(3);
@@ -165,6 +165,11 @@ struct louravela_event known_event(void)
         event.first = random_any() % (UINT64_C(1) << 32);
     }
     return event;
+}
+
+struct louravela_event known_event(void)
+{
+    return known_event_of(1 + random_below(16));
 }
 
 struct louravela_event random_event(void)
@@ -213,7 +218,11 @@ int main(int argc, char **argv)
         walk_dws();
         walk_identify();
         walk_bay();
+        if (seed - first < SHELF_ROUNDS) {
+            walk_shelf();
+        }
     }
+    print_shelves();
     printf("differ: seeds %" PRIu64 " to %" PRIu64 ": %llu steps, %llu of them beside the walks from damaged records, "
            "%llu runs, %llu events and %llu numbers read or written, compared with every byte of their buffers; "
            "%lu differences\n",

@@ -34,11 +34,16 @@ void same_phy(const struct louravela_phy *ours, const struct phy *theirs);
 void same_bay(const struct louravela_bay *ours, const struct bay *theirs);
 
 /* A known event is valid in a trace; of the random ones some have any number in one of their fields. */
+struct louravela_event known_event_of(uint64_t code);
 struct louravela_event known_event(void);
 struct louravela_event random_event(void);
 
+/* A counter behind the bay's base by a gap after which something may just have happened, or by any number of ticks. */
+struct louravela_event next_stamp(const struct louravela_bay *bay);
+
 /* With any numbers in some fields, or good but for a flag. */
 struct louravela_phy damaged_phy(struct louravela_phy phy);
+struct louravela_bay damaged_bay(struct louravela_bay bay);
 
 /* Steps of the machines. */
 struct louravela_phy walk_phy(void);
@@ -46,8 +51,24 @@ void walk_dws(void);
 void walk_identify(void);
 void walk_bay(void);
 
+/* The trace that is written, then perhaps padded or damaged, which may change its length, and then read or run. */
+enum { MOST_TRACE = 512 };
+
+extern uint8_t trace[MOST_TRACE];
+
+size_t padded_trace(size_t length);
+size_t damaged_trace(size_t length);
+
+/* Any bytes, the same in both. */
+void fill_both(uint8_t *ours, uint8_t *theirs, size_t length);
+
 /* Traces, their runs and their numbers. */
 void walk_trace(struct louravela_phy phy);
 void walk_numbers(void);
+
+/* A port on a lent row and queue, and runs over shelf traces. */
+void walk_shelf(void);
+void print_shelves(void);
+
 
 #endif

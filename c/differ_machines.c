@@ -79,8 +79,7 @@ static struct louravela_bay bay_both(struct louravela_bay bay, struct louravela_
     return ours.next;
 }
 
-/* A counter behind the bay's base by a gap after which something may just have happened, or by any number of ticks. */
-static struct louravela_event next_stamp(const struct louravela_bay *bay)
+struct louravela_event next_stamp(const struct louravela_bay *bay)
 {
     static const uint64_t gaps[] = {0, 1, 2, 998, 999, 1000, 1001, 1998, 1999, 2000, 2001, UINT32_MAX};
     struct louravela_event event = {LOURAVELA_TIME_STAMP, 0, 0, 0, 0, 0, 0};
@@ -90,7 +89,7 @@ static struct louravela_event next_stamp(const struct louravela_bay *bay)
     return event;
 }
 
-static struct louravela_bay damaged_bay(struct louravela_bay bay)
+struct louravela_bay damaged_bay(struct louravela_bay bay)
 {
     if (one_in(2)) {
         bay.phy = damaged_phy(bay.phy);

@@ -10,13 +10,13 @@
 #include "run.h"
 #include "trace.h"
 
-enum { TRACE_EVENTS = 24, MOST_TRACE = 512 };
+enum { TRACE_EVENTS = 24 };
 
 /* ---- Traces ---- */
 
-static uint8_t trace[MOST_TRACE];
+uint8_t trace[MOST_TRACE];
 
-static void fill_both(uint8_t *ours, uint8_t *theirs, size_t length)
+void fill_both(uint8_t *ours, uint8_t *theirs, size_t length)
 {
     for (size_t i = 0; i < length; i++) {
         ours[i] = theirs[i] = (uint8_t)random_below(256);
@@ -57,7 +57,7 @@ static size_t write_trace(void)
 }
 
 /* Each number with zero groups at its end, up to its ten, where they have room. */
-static size_t padded_trace(size_t length)
+size_t padded_trace(size_t length)
 {
     uint8_t padded[MOST_TRACE];
     size_t at = 0;
@@ -86,7 +86,7 @@ static size_t padded_trace(size_t length)
     return at;
 }
 
-static size_t damaged_trace(size_t length)
+size_t damaged_trace(size_t length)
 {
     if (length > 0 && one_in(2)) {
         for (uint64_t times = 1 + random_below(3); times > 0; times--) {
