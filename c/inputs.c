@@ -24,6 +24,27 @@ struct louravela_event event_of(uint64_t code)
     return event;
 }
 
+/* A Tx Open and the OPEN of a far end carry an address; the others have at most one small argument. */
+struct louravela_event mixed_event(uint64_t least_address, uint64_t addresses)
+{
+    struct louravela_event event = event_of(1 + random_below(15));
+
+    if (event.code == LOURAVELA_TX_OPEN || event.code == LOURAVELA_OPEN_RECEIVED) {
+        event.first = least_address + random_below(addresses);
+        event.second = random_below(3);
+    }
+    if (event.code == LOURAVELA_TX_OPEN) {
+        event.third = 8 + random_below(2);
+        event.fourth = random_below(100);
+        event.fifth = random_below(100);
+        event.sixth = random_below(100);
+    }
+    if (event.code == LOURAVELA_OPEN_REJECT_RECEIVED) {
+        event.first = random_below(8);
+    }
+    return event;
+}
+
 struct phy_event their_event(const struct louravela_event *event)
 {
     struct phy_event result = {

@@ -17,6 +17,10 @@ uint64_t random_below(uint64_t limit);
 /* An event without arguments. */
 struct louravela_event event_of(uint64_t code);
 
+/* Any of a phy's events. Its address, of a Tx Open or an OPEN, is one of so many from the least on; what else it has is
+ * below 100. */
+struct louravela_event mixed_event(uint64_t least_address, uint64_t addresses);
+
 /* The same event for the reference. */
 struct phy_event their_event(const struct louravela_event *event);
 

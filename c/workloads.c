@@ -8,6 +8,7 @@
 #include "number.h"
 #include "phy.h"
 #include "run.h"
+#include "shelf_loads.h"
 #include "trace.h"
 
 enum { MOST_EVENT_BYTES = 24, STEP_EVENTS = 1024, OPEN_TICKS = 2000 };
@@ -19,27 +20,6 @@ static struct louravela_event our_events[STEP_EVENTS];
 static struct phy_event their_events[STEP_EVENTS];
 
 /* ---- Inputs ---- */
-
-/* A Tx Open and the OPEN of a far end carry an address; the others have at most one small argument. */
-static struct louravela_event mixed_event(uint64_t least_address, uint64_t addresses)
-{
-    struct louravela_event event = event_of(1 + random_below(15));
-
-    if (event.code == LOURAVELA_TX_OPEN || event.code == LOURAVELA_OPEN_RECEIVED) {
-        event.first = least_address + random_below(addresses);
-        event.second = random_below(3);
-    }
-    if (event.code == LOURAVELA_TX_OPEN) {
-        event.third = 8 + random_below(2);
-        event.fourth = random_below(100);
-        event.fifth = random_below(100);
-        event.sixth = random_below(100);
-    }
-    if (event.code == LOURAVELA_OPEN_REJECT_RECEIVED) {
-        event.first = random_below(8);
-    }
-    return event;
-}
 
 static void append(struct louravela_event event)
 {
@@ -297,20 +277,32 @@ static uint64_t their_writes_10(size_t count)
 /* ---- Workloads ---- */
 
 const struct workload workloads[] = {
-    {"run-ticks-L0", prepare_ticks, our_run, their_run},
-    {"run-ticks-L1-L5", prepare_opens, our_run, their_run},
-    {"run-mixed-short", prepare_short, our_run, their_run},
-    {"run-mixed-ten-byte", prepare_long, our_run, their_run},
-    {"step-mixed", prepare_steps, our_steps, their_steps},
-    {"step-ticks-L0", prepare_tick_steps, our_steps, their_steps},
-    {"event-read-mixed", prepare_long, our_event_reads, their_event_reads},
-    {"event-write-mixed", prepare_steps, our_event_writes, their_event_writes},
-    {"number-read-1", prepare_numbers_1, our_reads, their_reads},
-    {"number-read-3", prepare_numbers_3, our_reads, their_reads},
-    {"number-read-10", prepare_numbers_10, our_reads, their_reads},
-    {"number-write-1", prepare_nothing, our_writes_1, their_writes_1},
-    {"number-write-3", prepare_nothing, our_writes_3, their_writes_3},
-    {"number-write-10", prepare_nothing, our_writes_10, their_writes_10}
+    {"run-ticks-L0", 0, prepare_ticks, our_run, their_run},
+    {"run-ticks-L1-L5", 0, prepare_opens, our_run, their_run},
+    {"run-mixed-short", 0, prepare_short, our_run, their_run},
+    {"run-mixed-ten-byte", 0, prepare_long, our_run, their_run},
+    {"step-mixed", 0, prepare_steps, our_steps, their_steps},
+    {"step-ticks-L0", 0, prepare_tick_steps, our_steps, their_steps},
+    {"event-read-mixed", 0, prepare_long, our_event_reads, their_event_reads},
+    {"event-write-mixed", 0, prepare_steps, our_event_writes, their_event_writes},
+    {"number-read-1", 0, prepare_numbers_1, our_reads, their_reads},
+    {"number-read-3", 0, prepare_numbers_3, our_reads, their_reads},
+    {"number-read-10", 0, prepare_numbers_10, our_reads, their_reads},
+    {"number-write-1", 0, prepare_nothing, our_writes_1, their_writes_1},
+    {"number-write-3", 0, prepare_nothing, our_writes_3, their_writes_3},
+    {"number-write-10", 0, prepare_nothing, our_writes_10, their_writes_10},
+    {"shelf-ticks-1", 1, prepare_shelf_ticks, our_shelf_run, their_shelf_run},
+    {"shelf-ticks-2", 2, prepare_shelf_ticks, our_shelf_run, their_shelf_run},
+    {"shelf-ticks-4", 4, prepare_shelf_ticks, our_shelf_run, their_shelf_run},
+    {"shelf-ticks-8", 8, prepare_shelf_ticks, our_shelf_run, their_shelf_run},
+    {"shelf-mixed-1", 1, prepare_shelf_mixed, our_shelf_run, their_shelf_run},
+    {"shelf-mixed-2", 2, prepare_shelf_mixed, our_shelf_run, their_shelf_run},
+    {"shelf-mixed-4", 4, prepare_shelf_mixed, our_shelf_run, their_shelf_run},
+    {"shelf-mixed-8", 8, prepare_shelf_mixed, our_shelf_run, their_shelf_run},
+    {"port-step-ticks-1", 1, prepare_port_ticks, our_port_steps, their_port_steps},
+    {"port-step-ticks-8", 8, prepare_port_ticks, our_port_steps, their_port_steps},
+    {"port-step-mixed-1", 1, prepare_port_mixed, our_port_steps, their_port_steps},
+    {"port-step-mixed-8", 8, prepare_port_mixed, our_port_steps, their_port_steps}
 };
 
 const size_t workload_count = sizeof workloads / sizeof workloads[0];
@@ -319,5 +311,6 @@ void prepare(const struct workload *workload, size_t count)
 {
     random_state = 1;
     trace_length = 0;
+    begin_shelf(workload->phys);
     workload->prepare(count);
 }

@@ -10,6 +10,7 @@ typedef uint64_t worker(size_t count);
 
 struct workload {
     const char *name;
+    size_t phys; /* of its shelf, where it has one */
     void (*prepare)(size_t count);
     worker *ours;
     worker *reference;
