@@ -26,6 +26,7 @@ use Rattle.run.specs.Running.{Halt, atEnd, atFault}
 use Rattle.queue.specs.Lent.{mostWaiting}
 use Rattle.port.specs.Names.{mostPhys}
 use Rattle.port.specs.Step.{reportsOf, isPorts}
+use Rattle.port.specs.Contracts.{Takes}
 use Rattle.port.specs.Stages as port
 use Rattle.port.specs.Stages.{someFree, concerned, handOn, onMoved, onPort, takenOf}
 use Rattle.port.specs.declared.Reports.{Reports}
@@ -33,7 +34,7 @@ use Rattle.port.specs.declared.Standing.{Standing}
 use Rattle.port.specs.declared.Taken.{Taken}
 use Rattle.shelf_run.specs.Running.{spentAt, ran}
 use Rattle.shelf_run.specs.Stages.{inUse, Went, rests, byteIn, takes, puts, goesOn, byRead, going, gone}
-use Rattle.shelf_run.specs.Contracts.{TakesOne, Through}
+use Rattle.shelf_run.specs.Contracts.{Through}
 use Rattle.shelf_run.specs.declared.Gone.{Gone}
 
 -- ---- the queue stays as long
@@ -56,7 +57,7 @@ port-long s b queue e =
     (λ _. by-pick (Long queue) (someFree (s .free)) (λ _. refl) (λ _. stay-long queue (s .waiting) .joined (openOf e)))
     (λ _. refl)
 
-pub taken-long : (s : Standing) (b : Bay) (queue : List ℕ) (number : ℕ) (e : Event) → Long queue (takenOf s b queue number e)
+taken-long : (s : Standing) (b : Bay) (queue : List ℕ) (number : ℕ) (e : Event) → Long queue (takenOf s b queue number e)
 unfolding takenOf
 taken-long s b queue number e =
     by-pick (Long queue) (isPorts number)
@@ -136,31 +137,22 @@ module _ {whole : Went} {lent s : List ℕ} {budget : ℕ} {before : List ℕ} {
   same-stage {next} {n} p q r t v =
       subst (λ (x : Standing × (List Bay × (List ℕ × List ℕ))). Stage whole lent s budget before (x .0) (x .1 .0) (x .1 .1 .0) next n (x .1 .1 .1)) (λ i. (p i, (q i, (r i, t i)))) v
 
-  module _ (h : count < budget) {e : ShelfEvent} {next : ℕ} (r : readShelf s place ≡ shelfEvent e next) (at : ℕ) (a : at ≡ concerned (st .free) (e .number)) where
-    -- as the code takes it: by a record, to what it makes of it, the queue and the buffer
-    stage-taken : (b : Bay) → takes st bays queue e at ≡ takenOf st b queue (e .number) (e .event)
-        → (t : Taken) (after out : List ℕ) → TakesOne st b queue e buffer count t after out
-        → Stage whole lent s budget before (t .standing) (puts st bays at (t .bay)) after next (count + 1) out
-    stage-taken b q t after out l =
-        let m : takes st bays queue e at .taken ≡ t = ap (λ (c : port.Course). c .taken) q ∙ sym (l .takes .says) in
-        same-stage (ap (λ (x : Taken). x .standing) m) (ap (λ (x : Taken). puts st bays at (x .bay)) m) (ap (λ (c : port.Course). c .queue) q ∙ sym (l .takes .leaves))
-        (ap (λ (x : Taken). set buffer count (byteIn (x .stepped .reports))) m ∙ sym (l .byte))
-        (stage-on h r at a (takes st bays queue e at) refl)
+  -- as the code takes it: by a record, to what it makes of it, the queue, the byte and the records
+  pub stage-next : count < budget → {e : ShelfEvent} {next : ℕ} → readShelf s place ≡ shelfEvent e next
+      → (at : ℕ) → at ≡ concerned (st .free) (e .number) → (b : Bay) → b ≡ pick (inUse st at) (getD bays at freshBay) freshBay
+      → (t : Taken) (after : List ℕ) → Takes st b queue (e .number) (e .event) t after
+      → (byte : ℕ) → byte ≡ byteIn (t .stepped .reports) → (row : List Bay) → row ≡ puts st bays at (t .bay)
+      → Stage whole lent s budget before (t .standing) row after next (count + 1) (set buffer count byte)
+  stage-next h {e} r at a b o t after l byte y row x =
+      let q : takes st bays queue e at ≡ takenOf st b queue (e .number) (e .event) = ap (λ (own : Bay). takenOf st own queue (e .number) (e .event)) (sym o) in
+      let m : takes st bays queue e at .taken ≡ t = ap (λ (c : port.Course). c .taken) q ∙ sym (l .says) in
+      same-stage (ap (λ (c : Taken). c .standing) m) (ap (λ (c : Taken). puts st bays at (c .bay)) m ∙ sym x) (ap (λ (c : port.Course). c .queue) q ∙ sym (l .leaves))
+      (ap (set buffer count) (ap (λ (c : Taken). byteIn (c .stepped .reports)) m ∙ sym y))
+      (stage-on h r at a (takes st bays queue e at) refl)
 
-    -- by the record of a phy of the port, which is put back
-    pub stage-phy : inUse st at ≡ true → (d : Bay) (t : Taken) (after out : List ℕ) → TakesOne st (getD bays at d) queue e buffer count t after out
-        → Stage whole lent s budget before (t .standing) (set bays at (t .bay)) after next (count + 1) out
-    stage-phy u d t after out l =
-        let there : getD bays at freshBay ≡ getD bays at d = any-else bays at freshBay d (omega (arith, in-table st at u, w .tabled)) in
-        subst (λ (x : Bool). Stage whole lent s budget before (t .standing) (pick x (set bays at (t .bay)) bays) after next (count + 1) out) u
-        (stage-taken (getD bays at d) (rw u (ap (λ (b : Bay). takenOf st b queue (e .number) (e .event)) there)) t after out l)
-
-    -- by a fresh one in the stead of none
-    pub stage-other : inUse st at ≡ false → (t : Taken) (after out : List ℕ) → TakesOne st freshBay queue e buffer count t after out
-        → Stage whole lent s budget before (t .standing) bays after next (count + 1) out
-    stage-other u t after out l =
-        subst (λ (x : Bool). Stage whole lent s budget before (t .standing) (pick x (set bays at (t .bay)) bays) after next (count + 1) out) u
-        (stage-taken freshBay (rw u refl) t after out l)
+  -- the record of an event, whether it is in use or not, and the records once it is put back
+  pub own-held : (at : ℕ) → inUse st at ≡ true → (other : Bay) → getD bays at other ≡ pick (inUse st at) (getD bays at freshBay) freshBay
+  own-held at u other = rw u (any-else bays at other freshBay (omega (arith, in-table st at u, w .tabled)))
 
   -- nothing more is taken
   pub stopped-at : {halt : Halt} → going (w .left) s place st bays queue ≡ rests bays queue halt → (r : Gone) → r ≡ gone bays (ran count halt) → Through whole before r queue buffer

@@ -2,25 +2,15 @@
 use Prim.Native.Nat.{ℕ}
 use mathlib.Core.List.{List}
 use mathlib.Core.Path.{_≡_}
-use lib.ListN.{length, set}
+use lib.ListN.{length}
 use lib.Seq.{sets}
-use Rattle.event.specs.declared.ShelfEvent.{ShelfEvent}
 use Rattle.bay.specs.declared.Bay.{Bay}
-use Rattle.port.specs.Contracts.{Takes}
 use Rattle.port.specs.declared.Scan.{Scan}
 use Rattle.port.specs.declared.Standing.{Standing}
-use Rattle.port.specs.declared.Taken.{Taken}
 use Rattle.shelf_run.specs.Running.{ran, ranOf, rowAfter, numbersAfter, bufferAfter}
-use Rattle.shelf_run.specs.Stages.{Went, byteIn, going, gone, goneOf, queueAfterRun, bufferAfterRun}
+use Rattle.shelf_run.specs.Stages.{Went, going, gone, goneOf, queueAfterRun, bufferAfterRun}
 use Rattle.shelf_run.specs.declared.Gone.{Gone}
 use Rattle.shelf_run.specs.declared.Ran.{Ran}
-
--- `take_one` of an event, by one record: what the port makes of it, and its byte in the buffer at a place
-pub record TakesOne (s : Standing) (b : Bay) (numbers : List ℕ) (e : ShelfEvent) (before : List ℕ) (count : ℕ)
-    (r : Taken) (queue after : List ℕ) : Type 0
-  where
-    pub takes : Takes s b numbers (e .number) (e .event) r queue
-    pub byte : after ≡ set before count (byteIn (r .stepped .reports))
 
 -- a course of events w was gone through, with the buffer `before`: the table, the queue and the buffer are left so
 pub record Through (w : Went) (before : List ℕ) (r : Gone) (queue after : List ℕ) : Type 0 where

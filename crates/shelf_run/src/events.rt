@@ -1,22 +1,20 @@
 // The events of a run, one after the other. The records stand in a table, and only the one that an event
 // concerns is read and put back.
-ghost use Prim.Native.Nat.{_≤_, _<_};
+ghost use Prim.Native.Nat.{_≤_};
 ghost use mathlib.Core.Path.{_≡_};
 ghost use lib.ListN.{length};
 ghost use Rattle.run.specs.Running.{tellsStop};
 ghost use Rattle.shelf_run.specs.Running.{unset as Running·unset, spentAt, ran as Running·ran};
 ghost use Rattle.shelf_run.specs.Stages.{empty as Stages·empty, allUnset, byteIn, gone};
-ghost use Rattle.shelf_run.specs.Contracts.{TakesOne, TakesEvents, GoesOver};
+ghost use Rattle.shelf_run.specs.Contracts.{TakesEvents, GoesOver};
 use crate::Gone;
 use crate::Ran;
 use crate::Table;
 use bay::Bay;
-use event::ShelfEvent;
 use port::MOST_PHYS;
 use port::Scan;
 use port::Standing;
 use port::Stepped;
-use port::Taken;
 use replies::stop_reply;
 use run::Stop;
 use shelf::ShelfRead;
@@ -92,23 +90,6 @@ fn spent(table: Table, count: usize, place: usize, length: usize) -> Gone
     stopped(table, count, Stop::End)
 }
 
-// An event, by one record, and its byte at a place of the buffer.
-fn take_one(
-    standing: Standing,
-    own: Bay,
-    queue: &mut [u64],
-    event: ShelfEvent,
-    buffer: &mut [u8],
-    count: usize,
-) -> Taken
-    requires { ⌜ count < length (now buffer) ⌝ }
-    ensures { λ r. ⌜ TakesOne standing own (now (queue .entry)) event (now (buffer .entry)) count r (now (queue .exit)) (now (buffer .exit)) ⌝ }
-{
-    let taken = port::take(standing, own, queue, event.number, event.event);
-    buffer[count] = byte_in(taken.stepped);
-    taken
-}
-
 // The events of a trace under a budget that the buffer has room for. An event that concerns no phy of the port
 // takes a fresh record in its stead, which nobody sees.
 fn take_events(
@@ -130,16 +111,16 @@ fn take_events(
         match shelf::event_at(trace, place) {
             ShelfRead::Event { event, next } => {
                 let at = port::concerned(stands.free, event.number);
-                place = next;
-                if ((at as u64) < stands.count) & (at < MOST_PHYS) {
-                    let taken = take_one(stands, table.bays[at], queue, event, buffer, count);
-                    let bay = taken.bay;
+                let held = ((at as u64) < stands.count) & (at < MOST_PHYS);
+                let own = if held { table.bays[at] } else { bay::fresh() };
+                let taken = port::take(stands, own, queue, event.number, event.event);
+                let bay = taken.bay;
+                buffer[count] = byte_in(taken.stepped);
+                if held {
                     table.bays[at] = bay;
-                    stands = taken.standing;
-                    count += 1;
-                    continue;
                 }
-                stands = take_one(stands, bay::fresh(), queue, event, buffer, count).standing;
+                stands = taken.standing;
+                place = next;
                 count += 1;
             }
             ShelfRead::End => return stopped(table, count, Stop::End),

@@ -1,14 +1,19 @@
 -- `shelf_run::events::take_events` meets its contract: each turn takes one event off the definition, and what comes behind is read where it stops.
 use Prim.Native.Nat.{_-_, _<_}
-use mathlib.Core.Path.{_≡_, sym, ap, _∙_}
+use mathlib.Core.Logic.{⊎-elim}
+use mathlib.Core.Path.{_≡_, refl, sym, ap, _∙_}
 use native.Mathlib.Omega.{arith}
 use borrow.Author.Needs.{needs}
+use lib.ListN.{getD}
+use Rattle.table.specs.Choice.{pick}
+use Rattle.bay.specs.State.{freshBay}
 use Rattle.port.specs.Names.{mostPhys}
 use Rattle.shelf.specs.Reading.{readShelf, tellsShelf}
 use Rattle.shelf.specs.declared.ShelfRead.{ShelfRead}
-use Rattle.shelf_run.specs.Stages.{going}
+use Rattle.shelf_run.specs.Stages.{inUse, puts, going}
+use Rattle.shelf_run.specs.declared.Table.{Table}
 use Rattle.shelf_run.proofs.Kit.{table-long}
-use Rattle.shelf_run.proofs.Loop.{in-table, Stage, stage-start, has-room, stage-phy, stage-other, stop-end, stop-spent, stop-fault}
+use Rattle.shelf_run.proofs.Loop.{in-table, Stage, stage-start, has-room, stage-next, own-held, stop-end, stop-spent, stop-fault}
 use Rattle.shelf_run.proofs.events.take_events.Statement.{statement}
 use Rattle.shelf_run.proofs.events.take_events.Tie as tie
 
@@ -29,37 +34,30 @@ inside c = in-table (c .before .before .before .before .before .before .before .
 loop-holds : tie.Need-loop-holds Inv-loop μ-loop
 loop-holds c = stage-start _ _ _ _ _ _ (table-long (c .before .before .before .args .table) (c .before .before .before .good .1 .0)) (c .before .before .before .pre)
 
-mul-bay : tie.Need-mul-bay Inv-loop μ-loop
-mul-bay c = omega (arith, inside ((c .before .before .before .before .before .before .before .before .before)))
+room : tie.Need-slice-write-buffer Inv-loop μ-loop
+room c = has-room (c .before .before .before .before .before .before .before .before .before .before .before .before .before .before .loop .inv) (c .before .before .before .before .before .before .before .before .before .before .before .before .before .loop-test .taken)
 
 set-bay : tie.Need-element-set-from-bay Inv-loop μ-loop
-set-bay c = inside ((c .before .before .before .before .before .before .before .before .before))
+set-bay c = in-table (c .before .before .before .before .before .before .before .before .before .before .before .before .before .before .before .loop .stands) (c .before .before .before .before .before .before .before .before .before .concerned .result) (c .if2 .taken)
 
 add-count : tie.Need-add-count Inv-loop μ-loop
-add-count c = omega (arith, c .before .before .before .before .before .before .before .before .before .before .before .before .before .before .before .before .before .loop-test .taken, c .before .before .before .before .before .before .before .before .before .before .before .before .before .before .before .before .before .before .before .before .before .before .fits .budget .fits)
+add-count c = omega (arith, c .before .before .before .before .before .before .before .before .before .before .before .before .before .before .before .loop-test .taken, c .before .before .before .before .before .before .before .before .before .before .before .before .before .before .before .before .before .before .before .before .fits .budget .fits)
 
 loop-less : tie.Need-loop-less Inv-loop μ-loop
-loop-less c = omega (arith, c .before .before .before .before .before .before .before .before .before .before .before .before .before .before .before .before .before .loop-test .taken)
+loop-less c = omega (arith, c .before .before .before .before .before .before .before .before .before .before .before .before .before .before .before .loop-test .taken)
+
+-- where the ways meet: the record taken, and the records it is put back to
+own : (c : tie.Joined1 Inv-loop μ-loop) → c .if1 .own ≡ pick (inUse (c .before .before .before .before .before .before .before .before .loop .stands) (c .before .before .concerned .result)) (getD (c .before .before .before .before .before .before .before .before .loop .table .bays) (c .before .before .concerned .result) freshBay) freshBay
+own c =
+    ⊎-elim (λ x. x .2 ∙ own-held (c .before .before .before .before .before .before .before .before .loop .inv) (c .before .before .concerned .result) (x .0 .taken) _) (λ x. x .2 ∙ x .1 .ensures ∙ rw (x .0 .left) refl) (c .if1 .came)
+
+row : (c : tie.Joined2 Inv-loop μ-loop) → c .if2 .table .bays ≡ puts (c .before .before .before .before .before .before .before .before .before .before .before .before .before .before .before .loop .stands) (c .before .before .before .before .before .before .before .before .before .before .before .before .before .before .before .loop .table .bays) (c .before .before .before .before .before .before .before .before .before .concerned .result) (c .before .before .before .before .before .take .result .bay)
+row c = ⊎-elim (λ x. ap (λ (t : Table). t .bays) (x .1) ∙ rw (x .0 .taken) refl) (λ x. ap (λ (t : Table). t .bays) (x .1) ∙ rw (x .0 .left) refl) (c .if2 .came)
 
 loop-again : tie.Need-loop-again Inv-loop μ-loop
-loop-again c = stage-phy (c .before .before .before .before .before .before .before .before .before .before .before .before .before .before .before .before .before .before .loop .inv) (c .before .before .before .before .before .before .before .before .before .before .before .before .before .before .before .before .before .loop-test .taken) (read ((c .before .before .before .before .before .before .before .before .before .before .before .before .before .before .before .before)) (c .before .before .before .before .before .before .before .before .before .before .before .before .before .before .event .given .1)) (c .before .before .before .before .before .before .before .before .before .before .before .before .concerned .result) (c .before .before .before .before .before .before .before .before .before .before .before .before .concerned .ensures) (c .before .before .before .before .before .before .before .before .before .before .if1 .taken) _ (c .before .before .before .before .before .before .take-one .result) _ _ (c .before .before .before .before .before .before .take-one .ensures)
-
-room : tie.Need-take-one-requires Inv-loop μ-loop
-room c κs = has-room (c .before .before .before .before .before .before .before .before .before .before .before .loop .inv) (c .before .before .before .before .before .before .before .before .before .before .loop-test .taken)
-
-room-2 : tie.Need-take-one-requires-2 Inv-loop μ-loop
-room-2 c κs = has-room (c .before .before .before .before .before .before .before .before .before .before .before .loop .inv) (c .before .before .before .before .before .before .before .before .before .before .loop-test .taken)
-
-add-count-2 : tie.Need-add-count-2 Inv-loop μ-loop
-add-count-2 c = omega (arith, c .before .before .before .before .before .before .before .before .before .before .before .before .before .before .before .before .loop-test .taken, c .before .before .before .before .before .before .before .before .before .before .before .before .before .before .before .before .before .before .before .before .before .fits .budget .fits)
-
-loop-less-2 : tie.Need-loop-less-2 Inv-loop μ-loop
-loop-less-2 c = omega (arith, c .before .before .before .before .before .before .before .before .before .before .before .before .before .before .before .before .loop-test .taken)
-
-loop-again-2 : tie.Need-loop-again-2 Inv-loop μ-loop
-loop-again-2 c =
-    stage-other (c .before .before .before .before .before .before .before .before .before .before .before .before .before .before .before .before .before .loop .inv) (c .before .before .before .before .before .before .before .before .before .before .before .before .before .before .before .before .loop-test .taken) (read ((c .before .before .before .before .before .before .before .before .before .before .before .before .before .before .before)) (c .before .before .before .before .before .before .before .before .before .before .before .before .before .event .given .1)) (c .before .before .before .before .before .before .before .before .before .before .before .concerned .result) (c .before .before .before .before .before .before .before .before .before .before .before .concerned .ensures) (c .before .before .before .before .before .before .before .before .before .if1 .left) (c .before .before .before .before .before .take-one2 .result) _ _
-    (rw (c .before .before .before .before .before .before .before .before .fresh .ensures) at (c .before .before .before .before .before .take-one2 .ensures))
+loop-again c =
+    stage-next (c .before .before .before .before .before .before .before .before .before .before .before .before .before .before .before .before .loop .inv) (c .before .before .before .before .before .before .before .before .before .before .before .before .before .before .before .loop-test .taken) (read ((c .before .before .before .before .before .before .before .before .before .before .before .before .before .before)) (c .before .before .before .before .before .before .before .before .before .before .before .before .event .given .1)) (c .before .before .before .before .before .before .before .before .before .before .concerned .result) (c .before .before .before .before .before .before .before .before .before .before .concerned .ensures) (c .before .before .before .before .before .before .before .before .if1 .own) (own ((c .before .before .before .before .before .before .before .before))) (c .before .before .before .before .before .before .take .result) _ (c .before .before .before .before .before .before .take .ensures) _ (c .before .before .byte-in .ensures)
+    _ (row ((c .before)))
 
 returns : tie.Need-returns Inv-loop μ-loop
 returns c = stop-end (c .before .before .before .before .before .loop .inv) (c .before .before .before .before .loop-test .taken) (read ((c .before .before .before)) (c .before .enum-told .given .1)) (c .stopped .result) (c .stopped .ensures)
@@ -80,8 +78,8 @@ pub take-events-spec : {M : Type 1} → statement M
 take-events-spec =
     tie.close
     (tie.spec Inv-loop μ-loop
-    loop-holds (λ _ _. tt) (λ c. search needs) (λ _ _. tt) (λ c. omega (arith, inside c)) inside room mul-bay set-bay add-count
-    loop-less loop-again (λ _ _. tt) room-2 add-count-2 loop-less-2 loop-again-2
+    loop-holds (λ _ _. tt) (λ c. search needs) (λ _ _. tt) (λ c. omega (arith, inside c)) inside (λ _ _. tt) (λ _ _. tt)
+    (λ _ _. tt) room (λ c. omega (arith, set-bay c)) set-bay add-count loop-less loop-again
     (λ c. search needs) (λ _ _. tt) (λ c. c .before .before .before .before .before .loop .inv .queued) (λ c. c .before .before .before .before .before .loop .inv .long) returns
     (λ c. search needs) (λ _ _. tt) (λ c. c .before .before .before .before .before .before .loop .inv .queued) (λ c. c .before .before .before .before .before .before .loop .inv .long) returns-2
     (λ c. search needs) (λ _ _. tt) (λ c. c .before .before .before .before .before .before .loop .inv .queued) (λ c. c .before .before .before .before .before .before .loop .inv .long) returns-3
