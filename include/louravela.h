@@ -21,7 +21,7 @@
  *     touches it until the call returns.
  *
  * No function keeps a pointer, allocates, or has a state of its own, so any thread may call any of them. Those that
- * write an event or a number need at most 256 bytes of stack, their arguments among them; those of a port up to 7,300.
+ * write an event or a number need at most 256 bytes of stack, their arguments among them; those of a port up to 6,300.
  * The archives of a port take memcpy and memmove from the C library.
  */
 #ifndef LOURAVELA_H
