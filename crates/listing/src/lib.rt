@@ -47,6 +47,13 @@ fn bay_after(written: LineWritten, before: Bay, after: Bay) -> Bay
     }
 }
 
+// A line that moves no bay.
+fn still(bay: Bay, written: LineWritten) -> Listed
+    ensures { λ r. ⌜ r ≡ record { bay = bay; written = written } ⌝ }
+{
+    Listed { bay, written }
+}
+
 // The line of what stands at a place: an event, the trace's end or a fault.
 fn next_event(trace: &[u8], place: usize, count: u64, bay: Bay, out: &mut [u8], at: usize) -> Listed
     ensures { λ r. ⌜ Puts (afterReading ofPhy place count bay (finds (now (trace .entry)) place)) bay (now (out .entry)) at r (now (out .exit)) ⌝ }
@@ -64,22 +71,10 @@ fn next_event(trace: &[u8], place: usize, count: u64, bay: Bay, out: &mut [u8], 
                 written,
             }
         }
-        EventRead::End => Listed {
-            bay,
-            written: put_end(place, count, out, at),
-        },
-        EventRead::BadEvent(first) => Listed {
-            bay,
-            written: put_stop(first, table::BAD_EVENT, out, at),
-        },
-        EventRead::Cut(first) => Listed {
-            bay,
-            written: put_stop(first, table::CUT, out, at),
-        },
-        EventRead::TooLarge(first) => Listed {
-            bay,
-            written: put_stop(first, table::TOO_LARGE, out, at),
-        },
+        EventRead::End => still(bay, put_end(place, count, out, at)),
+        EventRead::BadEvent(first) => still(bay, put_stop(first, table::BAD_EVENT, out, at)),
+        EventRead::Cut(first) => still(bay, put_stop(first, table::CUT, out, at)),
+        EventRead::TooLarge(first) => still(bay, put_stop(first, table::TOO_LARGE, out, at)),
     }
 }
 
@@ -91,19 +86,10 @@ pub fn next_line(trace: &[u8], progress: Progress, bay: Bay, out: &mut [u8], at:
         Progress::Header => {
             let first = Progress::Events { place: 0, count: 0 };
             let line = b"place event refusal answer notice sent link port\n";
-            Listed {
-                bay,
-                written: put_line(line, first, out, at),
-            }
+            still(bay, put_line(line, first, out, at))
         }
         Progress::Events { place, count } => next_event(trace, place, count, bay, out, at),
-        Progress::TooLong => Listed {
-            bay,
-            written: put_too_long(out, at),
-        },
-        Progress::Done { whole } => Listed {
-            bay,
-            written: LineWritten::Done { whole },
-        },
+        Progress::TooLong => still(bay, put_too_long(out, at)),
+        Progress::Done { whole } => still(bay, LineWritten::Done { whole }),
     }
 }

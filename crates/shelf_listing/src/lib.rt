@@ -101,6 +101,13 @@ fn shelf_after(written: LineWritten, before: Shelf, after: Shelf) -> Shelf
     }
 }
 
+// A line that moves no shelf.
+fn still(shelf: Shelf, written: LineWritten) -> Listed
+    ensures { λ r. ⌜ r ≡ record { shelf = shelf; written = written } ⌝ }
+{
+    Listed { shelf, written }
+}
+
 // The line of what stands at a place: an event, the trace's end or a fault.
 fn next_event(
     trace: &[u8],
@@ -125,22 +132,10 @@ fn next_event(
                 written,
             }
         }
-        ShelfRead::End => Listed {
-            shelf,
-            written: put_end(place, count, out, at),
-        },
-        ShelfRead::BadEvent(first) => Listed {
-            shelf,
-            written: put_stop(first, table::BAD_EVENT, out, at),
-        },
-        ShelfRead::Cut(first) => Listed {
-            shelf,
-            written: put_stop(first, table::CUT, out, at),
-        },
-        ShelfRead::TooLarge(first) => Listed {
-            shelf,
-            written: put_stop(first, table::TOO_LARGE, out, at),
-        },
+        ShelfRead::End => still(shelf, put_end(place, count, out, at)),
+        ShelfRead::BadEvent(first) => still(shelf, put_stop(first, table::BAD_EVENT, out, at)),
+        ShelfRead::Cut(first) => still(shelf, put_stop(first, table::CUT, out, at)),
+        ShelfRead::TooLarge(first) => still(shelf, put_stop(first, table::TOO_LARGE, out, at)),
     }
 }
 
@@ -158,19 +153,10 @@ pub fn next_line(
         Progress::Header => {
             let first = Progress::Events { place: 0, count: 0 };
             let line = b"place phy event refusal answer notice sent link port handed waiting\n";
-            Listed {
-                shelf,
-                written: put_line(line, first, out, at),
-            }
+            still(shelf, put_line(line, first, out, at))
         }
         Progress::Events { place, count } => next_event(trace, place, count, shelf, out, at),
-        Progress::TooLong => Listed {
-            shelf,
-            written: put_too_long(out, at),
-        },
-        Progress::Done { whole } => Listed {
-            shelf,
-            written: LineWritten::Done { whole },
-        },
+        Progress::TooLong => still(shelf, put_too_long(out, at)),
+        Progress::Done { whole } => still(shelf, LineWritten::Done { whole }),
     }
 }
