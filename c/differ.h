@@ -70,5 +70,4 @@ void walk_numbers(void);
 void walk_shelf(void);
 void print_shelves(void);
 
-
 #endif

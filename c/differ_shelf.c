@@ -84,7 +84,7 @@ static void same_port_report(const char *what, struct louravela_report ours, str
     same("the tick of a port's report", ours.tick, theirs.tick);
 }
 
-/* What the event did; its caller counts it. */
+/* What the event did; its caller counts hand-outs and refusals. */
 static struct louravela_port_stepped shelf_both(struct shelf *shelf, uint64_t number, struct louravela_event event)
 {
     struct shelf_event their = {number, their_event(&event)};

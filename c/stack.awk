@@ -5,7 +5,7 @@
 # A function is followed from its first instruction along every jump, with the depth of the stack at each: the return
 # address, what is pushed, the frame, and what is touched below the stack pointer. A call adds what the called function
 # comes to; a jump into another function goes on there, at the same depth. What cannot be followed so is a fault, but
-# for three functions of the C library: of them it is taken on trust that they keep to what BELOW allows.
+# for two functions of the C library: of them it is taken on trust that they keep to what BELOW allows.
 
 BEGIN {
     WORD = 8
@@ -13,7 +13,6 @@ BEGIN {
     BELOW = 128
     trusted["memcpy"]
     trusted["memmove"]
-    trusted["memset"]
 }
 
 # ---- what objdump says

@@ -10,5 +10,5 @@ determined =
       stamped = λ b counter. by-equation _;
       moved = λ b e. by-equation _;
       step = λ b e. by-equation _;
-      last-notice = λ stepped. by-equation _;
+      last-notice = λ first second. by-equation _;
     }

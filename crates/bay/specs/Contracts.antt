@@ -7,6 +7,7 @@ use Rattle.event.specs.declared.Event.{Event}
 use Rattle.bay.specs.State.{validOf, freshBay}
 use Rattle.bay.specs.Step.{lastNotice, stepOf, moveOf}
 use Rattle.bay.specs.declared.Bay.{Bay}
+use Rattle.bay.specs.declared.Report.{Report}
 use Rattle.bay.specs.declared.Stepped.{Stepped}
 
 -- `fresh`
@@ -29,6 +30,6 @@ Moves b e r = r ≡ moveOf b e
 abbrev pub TakesStamp : Bay → ℕ → Stepped → Type 0
 TakesStamp b counter r = r ≡ stepOf b (stampOf counter)
 
--- `last_notice` of what a step gave
-abbrev pub GivesLast : Stepped → ℕ → Type 0
-GivesLast stepped r = r ≡ lastNotice stepped
+-- `last_notice` of two
+abbrev pub GivesLast : (first second : Report) → ℕ → Type 0
+GivesLast first second r = r ≡ lastNotice first second

@@ -5,7 +5,7 @@ use Rattle.table.specs.Results.{Determines}
 use Rattle.event.specs.declared.Event.{Event}
 use Rattle.bay.specs.Contracts.{StartsFresh, TellsValid, TakesStamp, Moves, Steps, GivesLast}
 use Rattle.bay.specs.declared.Bay.{Bay}
-use Rattle.bay.specs.declared.Stepped.{Stepped}
+use Rattle.bay.specs.declared.Report.{Report}
 
 -- two results that a function may give coincide
 pub record Determined : Type 0 where
@@ -14,4 +14,4 @@ pub record Determined : Type 0 where
   pub stamped : (b : Bay) (counter : ℕ) → Determines (TakesStamp b counter)
   pub moved : (b : Bay) (e : Event) → Determines (Moves b e)
   pub step : (b : Bay) (e : Event) → Determines (Steps b e)
-  pub last-notice : (stepped : Stepped) → Determines (GivesLast stepped)
+  pub last-notice : (first second : Report) → Determines (GivesLast first second)

@@ -63,9 +63,9 @@ refused b n =
       refusal = n;
     }
 
--- the last notice of a step: the second, or the only one
-abbrev pub lastNotice : Stepped → ℕ
-lastNotice r = pick (eqb (r .secondNotice .code) 0) (r .notice .code) (r .secondNotice .code)
+-- the last of two notices: the second, or the only one
+abbrev pub lastNotice : (first second : Report) → ℕ
+lastNotice first second = pick (eqb (second .code) 0) (first .code) (second .code)
 
 -- ---- 16, time stamp
 

@@ -125,12 +125,10 @@ pub(crate) fn both_legs(a: Leg, b: Leg, counter: u64) -> Stepped
     }
 }
 
-// The second notice, or the only one.
-pub fn last_notice(stepped: Stepped) -> u64
-    ensures { λ r. ⌜ GivesLast stepped r ⌝ }
+// Of two notices the second, or the only one.
+pub fn last_notice(first: Report, second: Report) -> u64
+    ensures { λ r. ⌜ GivesLast first second r ⌝ }
 {
-    let first = stepped.notice;
-    let second = stepped.secondNotice;
     if second.code == 0 {
         return first.code;
     }

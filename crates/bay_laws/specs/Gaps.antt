@@ -76,7 +76,9 @@ lastCode (r ∷ s ∷ rs) = lastCode (s ∷ rs)
 
 -- what a listing has of a gap is its last notice and its last primitive
 pub record ListsLast (p : Phy) (n counter : ℕ) : Type 0 where
-  pub notice : lastNotice (passed (gapOf p n) counter) ≡ lastCode (gapOf p n .notices)
+  pub notice :
+      lastNotice (passed (gapOf p n) counter .notice) (passed (gapOf p n) counter .secondNotice)
+      ≡ lastCode (gapOf p n .notices)
   pub sent : passed (gapOf p n) counter .sent .code ≡ lastCode (gapOf p n .sents)
 
 abbrev pub LastAreLast : Type 0

@@ -46,7 +46,7 @@ fn step_front(row: Row, count: usize, queue: &mut [u64], number: u64, event: Eve
     RowStepped { row: lent, stepped }
 }
 
-// A step of the port that the first `count` bays of a row make; a row has no more than it holds.
+// A step of the port that the first `count` bays of a row make.
 pub fn step_row(row: Row, count: usize, queue: &mut [u64], number: u64, event: Event) -> RowStepped
     ensures { λ r. ⌜ StepsRow (row .bays) count (now (queue .entry)) number event r (now (queue .exit)) ⌝ }
 {

@@ -1,7 +1,7 @@
 -- Listings alike, by induction over the lines of the one: each is a line of the other, and the states after it are alike.
-use Prim.Native.Nat.{ℕ, suc}
+use Prim.Native.Nat.{ℕ}
 use mathlib.Core.List.{List, _++_}
-use mathlib.Core.Path.{_≡_, sym, subst, _∙_}
+use mathlib.Core.Path.{sym, subst, _∙_}
 use Rattle.lines.specs.Listing.{Listable, ListsFrom, ended, stopped, taken, Lists, listed, tooLong}
 use Rattle.lines.specs.Laws.{Alike, ListsAlike}
 

@@ -1,11 +1,11 @@
 -- What is written of a line is told by whether it fits, and so is the state that is left.
 use Prim.Native.Nat.{ℕ}
 use mathlib.Core.List.{List}
-use mathlib.Core.Path.{_≡_, refl, sym}
+use mathlib.Core.Path.{_≡_, refl}
 use Rattle.table.specs.Choice.{pick}
 use Rattle.table.specs.Refusals.{noRoom}
 use Rattle.table.proofs.Laws.{apart, by-test}
-use Rattle.lines.specs.Contracts.{ToldWritten, wrote, finished, refused, tellsWritten, fits, writeLine, movedOn}
+use Rattle.lines.specs.Contracts.{wrote, finished, refused, tellsWritten, fits, writeLine, movedOn}
 use Rattle.lines.specs.Laws.{MovesOn, Stays}
 use Rattle.lines.specs.declared.Progress.{Progress}
 use Rattle.lines.specs.declared.LineWritten.{LineWritten}

@@ -1,12 +1,11 @@
 -- A line is refused by one test, whether it fits, and where none comes nothing is.
 use Prim.Native.Nat.{ℕ, _+_}
 use mathlib.Core.Bool.{Bool}
-use mathlib.Core.List.{List}
 use mathlib.Core.Path.{_≡_, refl}
 use borrow.Author.Tests.{leb-false, lt-leb}
 use lib.ListN.{length}
 use Rattle.table.proofs.Laws.{apart, by-test}
-use Rattle.lines.specs.Listing.{Next, lineOf, noLine}
+use Rattle.lines.specs.Listing.{lineOf, noLine}
 use Rattle.lines.specs.Contracts.{wrote, finished, refused, fits}
 use Rattle.lines.specs.Laws.{NoRoomExactly, NoRoomKeeps}
 use Rattle.lines.specs.declared.Progress.{Progress}

@@ -1,5 +1,5 @@
--- What each function promises, cited by its `ensures` and by `Determined` in Laws; and what the function of any listing
--- promises that writes the next line.
+-- What each function promises, cited by its `ensures` and, of the public ones, by `Determined` in Laws; and what the
+-- function of any listing promises that writes the next line.
 use Prim.Native.Nat.{ℕ, _+_, _≤_}
 use mathlib.Core.Bool.{Bool, true, false}
 use mathlib.Core.List.{List, []}
@@ -72,13 +72,15 @@ PutsColumns place columns next before at r after =
 abbrev pub PutsLast : (line : List ℕ) → (whole : Bool) → List ℕ → ℕ → LineWritten → List ℕ → Type 0
 PutsLast line whole before at r after = PutsShort line (Progress·Done whole) before at r after
 
--- `put_end`, `put_stop` and `put_too_long`
+-- `put_end`
 abbrev pub PutsEnd : (place count : ℕ) → List ℕ → ℕ → LineWritten → List ℕ → Type 0
 PutsEnd place count before at r after = PutsLast (endLine place count) true before at r after
 
+-- `put_stop`
 abbrev pub PutsStop : (place refusal : ℕ) → List ℕ → ℕ → LineWritten → List ℕ → Type 0
 PutsStop place refusal before at r after = PutsLast (stopLine place refusal) false before at r after
 
+-- `put_too_long`
 abbrev pub PutsTooLong : List ℕ → ℕ → LineWritten → List ℕ → Type 0
 PutsTooLong before at r after = PutsLast tooLongLine false before at r after
 

@@ -190,15 +190,17 @@ EndTells {S} {E} m =
     (b : S) (s bytes : List ℕ) (es : List E) → length s ≤ mostTrace → ReadsAll (m .reads) s 0 es → Lists m b s bytes
     → EndsWith bytes (endLine (length s) (length es))
 
--- all of these, of one kind of listing
+-- what holds of one kind of listing
 pub record Listing {S E : Type 0} (m : Listable S E) : Type 0 where
+  pub falls : LinesFall m
+  pub advances : WrittenAdvances m
   pub exists : ListingExists m
   pub once : ListingOnce m
   pub lines : LinesAreListing m
   pub whole : WholeExactly m
   pub end-tells : EndTells m
 
--- where reading goes on
+-- all of it holds of every kind whose reading goes on
 abbrev pub ListingHolds : {S E : Type 0} → Listable S E → Type 0
 ListingHolds m = ReadsOn m → Listing m
 

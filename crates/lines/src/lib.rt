@@ -3,7 +3,8 @@
 ghost use Prim.Native.Nat.{_+_, _≤_};
 ghost use lib.ListN.{length};
 ghost use Rattle.lines.specs.Lines.{mostLine, lastLine};
-ghost use Rattle.lines.specs.Contracts.{StartsListing, PutsLine, PutsColumns, PutsLast, PutsEnd, PutsStop, PutsTooLong};
+ghost use Rattle.lines.specs.Contracts.{StartsListing, PutsLine, PutsColumns, PutsLast};
+ghost use Rattle.lines.specs.Contracts.{PutsEnd, PutsStop, PutsTooLong};
 use output::put_all;
 use output::put_more;
 use output::put_numbers;

@@ -6,6 +6,7 @@ use mathlib.Core.Logic.{_⊎_}
 use mathlib.Core.Path.{_≡_}
 use lib.Dec.{eqb, leb}
 use Rattle.table.specs.Choice.{pick}
+use Rattle.output.specs.Decimal.{digit}
 use Rattle.output.specs.Writing.{lost}
 use Rattle.lines.specs.Listing.{mostTrace, Listable, startOf}
 use Rattle.lines.specs.Laws.{Lines}
@@ -15,13 +16,15 @@ use Rattle.lister.specs.declared.Input.the-variants.{Length, Unread as u
 use Rattle.lister.specs.declared.Outcome.{Outcome}
 use Rattle.lister.specs.declared.Outcome.the-variants.{Whole, Damaged, Unwritten, Unread}
 
--- the bytes that are digits
+-- the byte of the digit 0
 abbrev pub firstDigit : ℕ
-firstDigit = 48
+firstDigit = digit 0
 
+-- that of the digit 9
 abbrev pub lastDigit : ℕ
-lastDigit = 57
+lastDigit = digit 9
 
+-- a byte that is a digit
 abbrev pub isDigit : ℕ → Bool
 isDigit d = leb firstDigit d && leb d lastDigit
 

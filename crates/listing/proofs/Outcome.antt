@@ -1,14 +1,14 @@
 -- The reader's events are those that a listing finds, so its outcome and its last line are told in the reader's words.
 use Prim.Native.Nat.{ℕ}
-use mathlib.Core.List.{List, [], _∷_}
-use mathlib.Core.Path.{_≡_, ap}
+use mathlib.Core.List.{List}
+use mathlib.Core.Path.{ap}
 use Rattle.event.specs.declared.Event.{Event}
 use Rattle.trace.specs.Reading.{readEvent}
 use Rattle.trace.specs.Laws as trace
 use Rattle.bay.specs.State.{freshBay}
 use Rattle.lines.specs.Laws as lines
 use Rattle.listing.specs.Listing.{foundOf, finds}
-use Rattle.listing.specs.Laws.{Whole, WholeExactly, EndTells}
+use Rattle.listing.specs.Laws.{WholeExactly, EndTells}
 use Rattle.listing.proofs.Whole.{found-event, found-end, phy-listing}
 
 to-reader : {s : List ℕ} {place : ℕ} {es : List Event} → lines.ReadsAll finds s place es → trace.ReadsAll s place es

@@ -1,12 +1,9 @@
 -- What holds of every listing whose reading goes on holds of a phy's: an event read moves the place on, and the end comes where the trace ends.
-use Prim.Native.Nat.{ℕ, _≤_, _<_}
-use mathlib.Core.List.{List}
+use Prim.Native.Nat.{ℕ}
 use mathlib.Core.Path.{_≡_, refl}
-use lib.ListN.{length}
 use Rattle.table.proofs.Laws.{apart}
 use Rattle.event.specs.declared.Event.{Event}
 use Rattle.trace.specs.Reading.{Told, event, end, refused, readEvent}
-use Rattle.trace.specs.Laws.{MovesOn}
 use Rattle.trace.proofs.Accepted.{read-moves-on}
 use Rattle.trace.proofs.Refusals.{end-exactly}
 use Rattle.lines.specs.Listing.{found, nothing}

@@ -21,7 +21,7 @@ pub(crate) fn columns_of(event: Event, stepped: Stepped) -> Columns
         event: event.code,
         refusal: stepped.refusal,
         answer: answer.code,
-        notice: last_notice(stepped),
+        notice: last_notice(stepped.notice, stepped.secondNotice),
         sent: sent.code,
         link: phy.link,
         port: phy.port,

@@ -17,7 +17,7 @@ use output::put_more;
 use output::put_numbers;
 
 // One more than a queue may have.
-pub(crate) const MOST_QUEUE: usize = 193;
+pub(crate) const MOST_QUEUE: usize = queue::LENGTH + 1;
 
 // The numbers of a bay behind those of its phy.
 const CLOCK: usize = 2;

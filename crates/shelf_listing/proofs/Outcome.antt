@@ -1,7 +1,7 @@
 -- The reader's events are those that a listing finds, so its outcome and its last line are told in the reader's words.
 use Prim.Native.Nat.{ℕ}
 use mathlib.Core.List.{List}
-use mathlib.Core.Path.{_≡_, ap}
+use mathlib.Core.Path.{ap}
 use Rattle.event.specs.declared.ShelfEvent.{ShelfEvent}
 use Rattle.shelf.specs.Reading.{readShelf}
 use Rattle.shelf.specs.Laws as shelf

@@ -1,17 +1,16 @@
 -- What holds of every listing whose reading goes on holds of a shelf's; and a shelf of fresh bays lists as the port that it holds.
 use Prim.Native.Nat.{ℕ}
 use mathlib.Core.List.{List}
-use mathlib.Core.Path.{_≡_, refl, sym, subst}
-use lib.ListN.{length}
+use mathlib.Core.Path.{_≡_, refl, subst}
 use Rattle.table.proofs.Laws.{apart}
 use Rattle.event.specs.declared.ShelfEvent.{ShelfEvent}
 use Rattle.shelf.specs.Reading.{ToldShelf, shelfEvent, shelfEnd, shelfRefused, readShelf}
 use Rattle.shelf.proofs.Accepted.{read-moves-on}
 use Rattle.shelf.proofs.Refusals.{end-exactly}
 use Rattle.port.specs.State.{freshPort}
-use Rattle.lines.specs.Listing.{Found, found, nothing, Listable, startOf}
+use Rattle.lines.specs.Listing.{found, nothing}
 use Rattle.lines.specs.Listing as lines
-use Rattle.lines.specs.Laws.{ReadsOn, Listing, LinesFrom}
+use Rattle.lines.specs.Laws.{ReadsOn, Listing}
 use Rattle.lines.proofs.Holds.{listing-holds}
 use Rattle.lines.proofs.Alike.{lists-alike}
 use Rattle.shelf_listing.specs.Listing.{foundOf, ofPort, Lists}

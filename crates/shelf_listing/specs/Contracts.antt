@@ -1,4 +1,4 @@
--- What each public function promises, cited by its `ensures` and by `Determined` in Laws.
+-- What each function promises, cited by its `ensures` and, of the public ones, by `Determined` in Laws.
 use Prim.Native.Nat.{ℕ}
 use mathlib.Core.List.{List}
 use mathlib.Core.Path.{_≡_}

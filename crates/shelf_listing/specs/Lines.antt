@@ -1,13 +1,13 @@
 -- The lines of a shelf's listing, byte for byte, beside those that every listing has.
 use Prim.Native.Nat.{ℕ}
 use mathlib.Core.List.{List, [], _∷_}
-use lib.Dec.{eqb, ltb}
+use lib.Dec.{ltb}
 use lib.ListN.{length}
 use Rattle.table.specs.Choice.{pick}
 use Rattle.event.specs.declared.ShelfEvent.{ShelfEvent}
+use Rattle.bay.specs.Step.{lastNotice}
 use Rattle.bay.specs.declared.Bay.{Bay}
 use Rattle.port.specs.Step.{bayAt}
-use Rattle.port.specs.declared.Reports.{Reports}
 use Rattle.port.specs.declared.Stepped.{Stepped}
 use Rattle.output.specs.Writing.{line}
 use Rattle.lines.specs.Words.{ascii}
@@ -25,10 +25,6 @@ statesAt bays number =
     (record { link = bayAt bays number .phy .link; port = bayAt bays number .phy .port })
     (record { link = 0; port = 0 })
 
--- the last notice of an event: the second, or the only one
-abbrev pub lastNotice : Reports → ℕ
-lastNotice r = pick (eqb (r .secondNotice .code) 0) (r .notice .code) (r .secondNotice .code)
-
 -- what stands in the columns of an event: its phy and its code, what it reports, of two notices the last, link and port
 -- of its phy afterwards, the phy that then received an Open, and how many wait
 abbrev pub columnsOf : ShelfEvent → Stepped → States → (waiting : ℕ) → Columns
@@ -38,7 +34,7 @@ columnsOf e r states waiting =
       event = e .event .code;
       refusal = r .reports .refusal;
       answer = r .reports .answer .code;
-      notice = lastNotice (r .reports);
+      notice = lastNotice (r .reports .notice) (r .reports .secondNotice);
       sent = r .reports .sent .code;
       link = states .link;
       port = states .port;

@@ -2,16 +2,16 @@
 ghost use mathlib.Core.Path.{_≡_};
 ghost use Rattle.held.specs.Rows.{front};
 ghost use Rattle.lines.specs.Contracts.{PutsShort};
-ghost use Rattle.shelf_listing.specs.Lines.{statesAt, lastNotice, columnsOf, eventLine};
+ghost use Rattle.shelf_listing.specs.Lines.{statesAt, columnsOf, eventLine};
 use crate::Columns;
 use crate::States;
+use bay::last_notice;
 use event::ShelfEvent;
 use held::MOST_HELD;
 use held::Row;
 use lines::LineWritten;
 use lines::Progress;
 use lines::put_columns;
-use port::Reports;
 use port::Stepped;
 
 const NO_PHY: States = States { link: 0, port: 0 };
@@ -28,18 +28,6 @@ pub(crate) fn states_at(row: Row, phys: usize, number: u64) -> States
         };
     }
     NO_PHY
-}
-
-// The second notice, or the only one.
-fn last_notice(reports: Reports) -> u64
-    ensures { λ r. ⌜ r ≡ lastNotice reports ⌝ }
-{
-    let first = reports.notice;
-    let second = reports.secondNotice;
-    if second.code == 0 {
-        return first.code;
-    }
-    second.code
 }
 
 pub(crate) fn columns_of(
@@ -59,7 +47,7 @@ pub(crate) fn columns_of(
         event: what.code,
         refusal: reports.refusal,
         answer: answer.code,
-        notice: last_notice(reports),
+        notice: last_notice(reports.notice, reports.secondNotice),
         sent: sent.code,
         link: states.link,
         port: states.port,

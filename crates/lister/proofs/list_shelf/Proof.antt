@@ -1,5 +1,5 @@
 -- `lister::list_shelf` ends as the lines from the start do: each line leads on to the next and leaves fewer to come, and a buffer that has no room for one holds something, which is written.
-use Prim.Native.Nat.{_*_, _+_, _≤_, _<_}
+use Prim.Native.Nat.{_*_, _+_, _≤_}
 use mathlib.Core.Path.{_≡_, ap}
 use native.Mathlib.Omega.{arith}
 use borrow.Author.Needs.{needs}

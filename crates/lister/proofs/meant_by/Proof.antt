@@ -1,6 +1,6 @@
 -- `lister::meant_by` meets its contract: each turn takes one digit off the definition, which stops where the code does.
 use Prim.Native.Nat.{_-_}
-use mathlib.Core.Path.{_≡_, refl}
+use mathlib.Core.Path.{refl}
 use native.Mathlib.Omega.{arith}
 use borrow.Author.Needs.{needs}
 use borrow.Author.Tests.{leb-true}

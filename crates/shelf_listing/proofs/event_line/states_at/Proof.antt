@@ -3,7 +3,6 @@ use Rattle.held.proofs.Kit.{row-long}
 use Rattle.shelf_listing.proofs.Rows.{in-row, of-phy, of-none}
 use Rattle.shelf_listing.proofs.event_line.states_at.Statement.{statement}
 use Rattle.shelf_listing.proofs.event_line.states_at.Tie as tie
-use borrow.Author.Needs.{needs}
 use native.Mathlib.Omega.{arith}
 
 below : tie.Need-element-copy-out-bay
