@@ -1,5 +1,7 @@
 // A bay: a phy with its recorder's clock. A step takes any record and any event, and ends; a time stamp
 // costs the same however many ticks it stands for, but for two moves of the link at most.
+#![tactic(auto)]
+
 mod gap;
 mod reports;
 mod state;

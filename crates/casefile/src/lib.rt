@@ -1,5 +1,7 @@
 // A case file: its numbers, byte strings and records, and the window through which a program reads it.
 // What a fault spoils is left out, and the comparison with the expected output then fails.
+#![tactic(auto)]
+
 mod input;
 mod pieces;
 mod records;

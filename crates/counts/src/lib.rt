@@ -1,5 +1,7 @@
 // How often each bay gave each answer: a row of sixteen counters for each bay, of 32 bits each. They are held as
 // an array of arrays, or lent as one slice of numbers, row after row.
+#![tactic(auto)]
+
 mod lent;
 mod rows;
 

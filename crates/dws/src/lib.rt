@@ -1,4 +1,6 @@
 // Dword synchronization: whether the stream of dwords from the far end is understood.
+#![tactic(auto)]
+
 ghost use Rattle.std.specs.Prelude.{◌≡◌};
 ghost use Rattle.dws.specs.Step.{after_invalid, after_valid, after_primitive, next_state, report_of};
 ghost use Rattle.dws.specs.Promises.{StartsFresh, Steps};

@@ -1,5 +1,7 @@
 // Events of the phy and the time stamp that stands among them in a trace: their codes, and the one table
 // of arguments, how many each event has and each one's range.
+#![tactic(auto)]
+
 ghost use Rattle.std.specs.Prelude.{◌≡◌, ◌&&◌, eqb, leb, [], ◌∷◌};
 ghost use Rattle.table.specs.Choice.{pick};
 ghost use Rattle.event.specs.Names.{time_stamp, most_counter};

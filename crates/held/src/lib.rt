@@ -1,4 +1,6 @@
 // Bays held by value, as a program holds them: the first ones of a row make a port, in the row as it is lent.
+#![tactic(auto)]
+
 ghost use Rattle.std.specs.Prelude.{◌≤◌, ◌≡◌};
 ghost use Rattle.held.specs.Rows.{most_held, shown};
 ghost use Rattle.held.specs.Promises.{FreshRow, StepsRow};

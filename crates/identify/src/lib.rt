@@ -1,5 +1,7 @@
 // Identification: a phy waits for the other side's identify frame and sends its own. The receiver
 // takes the frame apart, a timer runs from our own frame on, and there is one outcome.
+#![tactic(auto)]
+
 ghost use Rattle.std.specs.Prelude.{◌≡◌};
 ghost use Rattle.identify.specs.Promises.{StartsFresh, TellsValid, Steps};
 ghost use Rattle.identify.specs.Step.{goes, reports, quiet, ends, exchanged, refused, on_soaf, type_after, counted, on_data_dword, frame_ends, on_eoaf, on_hard_reset, on_own_frame_sent, on_tick, most_of, known_of, move_of};

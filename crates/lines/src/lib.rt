@@ -1,5 +1,7 @@
 // What every listing has, whatever it lists: how far it has come, and the lines that end it. Whoever lists
 // holds a `Progress`, and beside it the state of what is listed, and asks for one line after the other.
+#![tactic(auto)]
+
 ghost use Rattle.std.specs.Prelude.{◌+◌, ◌≤◌, length};
 ghost use Rattle.lines.specs.Lines.{most_line, last_line};
 ghost use Rattle.lines.specs.Promises.{StartsListing, PutsLine, PutsColumns, PutsLast};

@@ -1,5 +1,7 @@
 // Lists the trace on standard input: what a fresh phy does at each event, or a shelf of fresh phys. What the
 // lines say is proved in crates `listing` and `shelf_listing`; here they are gathered and written out.
+#![tactic(auto)]
+
 ghost use Rattle.std.specs.Prelude.{◌≡◌, length};
 ghost use Rattle.bay.specs.State.{fresh_bay};
 ghost use Rattle.listing.specs.Listing.{of_phy};

@@ -1,5 +1,7 @@
 // The listing of a phy's trace, line by line: what a fresh bay does at each event. Whoever lists holds a
 // progress and a bay, and asks for one line after the other.
+#![tactic(auto)]
+
 mod event_line;
 
 ghost use Rattle.std.specs.Prelude.{◌≡◌};

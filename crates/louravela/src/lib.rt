@@ -1,6 +1,8 @@
 // The library's functions under their C names: the fresh phy and bay, the two machines beside them, and
 // events of a trace. Steps of a phy and of a bay, runs and numbers stand in archives of their own, since
 // they are hot.
+#![tactic(auto)]
+
 ghost use Rattle.bay.specs.Promises.{StartsFresh as BayStartsFresh};
 ghost use Rattle.dws.specs.Promises.{StartsFresh as DwsStartsFresh, Steps as DwsSteps};
 ghost use Rattle.identify.specs.Promises.{StartsFresh as IdentifyStartsFresh, Steps as IdentifySteps};

@@ -1,4 +1,6 @@
 // Numbers of a trace under their C names: in an archive of their own, since they are hot.
+#![tactic(auto)]
+
 ghost use Rattle.replies.specs.Promises.{ReadsNumber, WritesNumber};
 
 use replies::{NumberReply, WriteReply};

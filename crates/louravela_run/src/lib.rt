@@ -1,5 +1,7 @@
 // A run of the phy over a trace under its C name. A hot function has an archive of its own, so that
 // everything under it is compiled into it.
+#![tactic(auto)]
+
 ghost use Rattle.replies.specs.Promises.{Runs};
 
 use phy::Phy;

@@ -1,5 +1,7 @@
 // A run over a shelf trace under its C name. A hot function has an archive of its own, so that everything
 // under it is compiled into it.
+#![tactic(auto)]
+
 ghost use Rattle.shelf_run.specs.Promises.{Runs};
 
 use bay::Bay;

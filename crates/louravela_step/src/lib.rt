@@ -1,5 +1,7 @@
 // The phy's step under its C name. A hot function has an archive of its own, so that everything under it
 // is compiled into it.
+#![tactic(auto)]
+
 ghost use Rattle.phy.specs.Promises.{Steps};
 
 use event::Event;

@@ -1,5 +1,7 @@
 // Numbers of a trace: groups of seven bits, lowest first, the high bit set if another follows.
 // Reading takes zero groups at the end too; writing gives the one shortest form.
+#![tactic(auto)]
+
 ghost use Rattle.number.specs.Promises.{Fewer, ReadsNumber, CountsBytes, WritesNumber};
 
 // Each group counts 128 times the one before; in a byte this is the high bit, set where another follows.

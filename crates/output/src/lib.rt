@@ -1,5 +1,7 @@
 // Lines of text, gathered in a buffer: decimal numbers, one blank between two. Each function writes at
 // n and gives the place where the next one writes; what has no room is left out.
+#![tactic(auto)]
+
 ghost use Rattle.std.specs.Prelude.{min, [], ◌∷◌, ◌≡◌, length};
 ghost use Rattle.table.specs.Choice.{pick};
 ghost use Rattle.output.specs.Decimal.{decimal};

@@ -1,4 +1,6 @@
 // One phy: link and port together. A step takes any record and any event, and ends.
+#![tactic(auto)]
+
 mod moves;
 mod names;
 mod shapes;

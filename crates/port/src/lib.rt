@@ -1,5 +1,7 @@
 // A port: bays, lent as one row of records, and a queue of Opens that wait for a free phy. A step takes any
 // row, any queue, any number and any event, and ends.
+#![tactic(auto)]
+
 mod row;
 mod state;
 mod taking;

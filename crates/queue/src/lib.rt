@@ -1,5 +1,7 @@
 // The Opens that wait at a port, oldest first, lent as numbers: six for each Open in use, in the order of
 // its fields, and behind them zeros.
+#![tactic(auto)]
+
 ghost use Rattle.std.specs.Prelude.{◌+◌, ◌≤◌, ◌≡◌, length, get_or, drop};
 ghost use Rattle.std.proofs.lemmas.List.Edits.{sets};
 ghost use Rattle.queue.specs.Lent.{numbers_each, lent_length, numbers_of, open_from, queue_in, all_zero, moved_up};

@@ -1,5 +1,7 @@
 // Reading, writing and running with answers that are records of numbers alone, where those below answer
 // by an enum: for C callers, and for programs that print them.
+#![tactic(auto)]
+
 ghost use Rattle.std.specs.Prelude.{◌≡◌};
 ghost use Rattle.number.specs.Reading.{tells as number_tells};
 ghost use Rattle.number.specs.Writing.{tells_written as number_tells_written};

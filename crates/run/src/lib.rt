@@ -1,5 +1,7 @@
 // A run over a trace: a phy, a budget of events and a lent buffer that gets one byte for each event
 // taken. The recorder's clock starts with the run, and is given back with the phy.
+#![tactic(auto)]
+
 ghost use Rattle.std.specs.Prelude.{◌<◌, ◌≡◌};
 ghost use Rattle.bay.specs.State.{unstamped as state_unstamped};
 ghost use Rattle.run.specs.Running.{byte_for, told, tells, tells_stop};

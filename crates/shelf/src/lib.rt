@@ -1,5 +1,7 @@
 // Events of a shelf trace, end to end: each the number of its phy, any number of crate `number`, and then the
 // event as crate `trace` has it.
+#![tactic(auto)]
+
 ghost use Rattle.std.specs.Prelude.{◌≡◌, ◌+◌, leb};
 ghost use Rattle.shelf.specs.Promises.{ReadsShelf, ReachesShelf, TakesShelf, WritesShelf};
 

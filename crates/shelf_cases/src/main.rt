@@ -1,6 +1,8 @@
 // Runs stored cases of shelf traces, of ports and of runs over shelf traces, and prints what our functions
 // give. The cases stand on standard input as numbers in the trace's own form, each case after the number of
 // its kind; the expected output is made by the reference alone.
+#![tactic(auto)]
+
 ghost use Rattle.casefile.specs.Promises.{EndsWithin};
 
 mod events;

@@ -1,5 +1,7 @@
 // The listing of a shelf trace, line by line: what a port of fresh phys does at each event. Whoever lists
 // holds a progress and a shelf, and asks for one line after the other.
+#![tactic(auto)]
+
 mod event_line;
 
 ghost use Rattle.std.specs.Prelude.{◌≡◌};

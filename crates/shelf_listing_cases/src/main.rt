@@ -1,6 +1,8 @@
 // Runs stored cases of shelf listings, and prints the lister's own lines. The cases stand on standard input as
 // numbers in the trace's own form, each case after the number of its kind; the expected output is made by the
 // reference alone.
+#![tactic(auto)]
+
 ghost use Rattle.casefile.specs.Promises.{EndsWithin};
 
 use casefile::{Place, START, next_case, put_pieces, take};

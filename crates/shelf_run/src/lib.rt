@@ -1,5 +1,7 @@
 // A run over a shelf trace: a lent row, a queue, a budget of events, and a lent buffer that gets one byte for
 // each event taken. The port is judged once; where it stands is carried along.
+#![tactic(auto)]
+
 mod events;
 mod row;
 

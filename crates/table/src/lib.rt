@@ -1,5 +1,6 @@
 // What every machine shares: the paper's numbers of refusal, and those of a flag. How a definition
 // chooses, by a test or by the row of a table, is in specs/Choice.antt.
+#![tactic(auto)]
 
 pub const BAD_STATE: u64 = 1;
 

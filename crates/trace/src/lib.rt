@@ -1,5 +1,7 @@
 // Events of a trace, end to end: each its code and then its arguments, numbers of crate `number` in the
 // ranges of crate `event`.
+#![tactic(auto)]
+
 ghost use Rattle.std.specs.Prelude.{true, ◌≡◌, length};
 ghost use Rattle.event.specs.Table.{known_in_trace};
 ghost use Rattle.trace.specs.Writing.{all_numbers, event_bytes};
