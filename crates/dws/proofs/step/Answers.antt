@@ -1,16 +1,16 @@
-use Rattle.std.proofs.Common.{rules, ◌≡◌, ℕ, ◌+◌, ◌-◌, ◌*◌, ◌<◌, ◌≤◌, length, ◌/◌, ◌%◌, Bool, true, false, nat_eq, nat_lt, List, [], ◌∷◌, ◌++◌, slice_index_or, slice_set, bit_and, bit_or, Fits, w8, w32, w64, Bor, MutBor}
-use Rattle.dws.specs.Step.{after_invalid, after_valid, after_primitive, next_state, report_of}
-use Rattle.dws.specs.Promises.{StartsFresh, Steps}
+-- `dws::step` meets its contract: the state is judged first, then the event.
+use borrow.Author.Tests.{le-leb, lt-leb}
+use Rattle.dws.specs.Step.{step_of}
 use Rattle.dws.proofs.step.Goals as goal
 
--- src/lib.rt:132:9
 pub returns-then-state-gt-LOST_3_RECOVERED : goal.returns-then-state-gt-LOST_3_RECOVERED
-returns-then-state-gt-LOST_3_RECOVERED c = ?
+unfolding step_of
+returns-then-state-gt-LOST_3_RECOVERED c = simp (lt-leb _ _ c.if-state-gt-LOST_3_RECOVERED.true)
 
--- src/lib.rt:139:9
 pub returns-then-event-gt-RESTART : goal.returns-then-event-gt-RESTART
-returns-then-event-gt-RESTART c = ?
+unfolding step_of
+returns-then-event-gt-RESTART c = simp (le-leb _ _ c.if-state-gt-LOST_3_RECOVERED.false, lt-leb _ _ c.if-event-gt-RESTART.true)
 
--- src/lib.rt:128:1
 pub returns : goal.returns
-returns c = ?
+unfolding step_of
+returns c = simp (c.report_of.ensures, c.next_state-next.ensures, le-leb _ _ c.if-state-gt-LOST_3_RECOVERED.false, le-leb _ _ c.if-event-gt-RESTART.false)
