@@ -16,7 +16,7 @@ pub use state::{fresh, valid};
 
 // The base is the counter of the last stamp; `baseSet` is a flag, that one has come.
 #[repr(C)]
-#[derive(Drop)]
+#[derive(Clone, Copy)]
 pub struct Bay {
     pub phy: Phy,
     pub base: u64,
@@ -25,7 +25,7 @@ pub struct Bay {
 
 // A code, and the tick of its gap at which it came, counted from 1; 0 where no gap has passed.
 #[repr(C)]
-#[derive(Drop)]
+#[derive(Clone, Copy)]
 pub struct Report {
     pub code: u64,
     pub tick: u64,
@@ -34,7 +34,7 @@ pub struct Report {
 // What a step gives: the bay, an answer with the arguments of its Open, at most two notices, a primitive
 // sent, each with its tick, and the number of a refusal; each 0 where there is none.
 #[repr(C)]
-#[derive(Drop)]
+#[derive(Clone, Copy)]
 pub struct Stepped {
     pub next: Bay,
     pub answered: Open,
@@ -46,7 +46,7 @@ pub struct Stepped {
 }
 
 // A part of a gap: what its last tick gave, and how many ticks it has.
-#[derive(Drop)]
+#[derive(Clone, Copy)]
 pub(crate) struct Leg {
     pub(crate) stepped: phy::Stepped,
     pub(crate) ticks: u64,

@@ -21,35 +21,35 @@ pub const PHY_NUMBERS: usize = 16;
 pub const EVENT_NUMBERS: usize = 7;
 
 // Where the case file is read next, and how much output is gathered.
-#[derive(Drop)]
+#[derive(Clone, Copy)]
 pub struct Place {
     pub next: usize,
     pub n: usize,
 }
 
 // A number, and the place after it.
-#[derive(Drop)]
+#[derive(Clone, Copy)]
 pub struct Taken {
     pub value: u64,
     pub next: usize,
 }
 
 // A byte string of the case file, as a part of it.
-#[derive(Drop)]
+#[derive(Clone, Copy)]
 pub struct Part {
     pub from: usize,
     pub to: usize,
 }
 
 // How much of a buffer is filled, and whether there was room for all.
-#[derive(Drop)]
+#[derive(Clone, Copy)]
 pub struct Filled {
     pub length: usize,
     pub whole: bool,
 }
 
 // What pieces make, and where the case file is read next.
-#[derive(Drop)]
+#[derive(Clone, Copy)]
 pub struct Made {
     pub next: usize,
     pub length: usize,
@@ -57,7 +57,7 @@ pub struct Made {
 }
 
 // The part of the window that holds what is to come, and whether the file has ended.
-#[derive(Drop)]
+#[derive(Clone, Copy)]
 pub(crate) struct Ahead {
     pub(crate) from: usize,
     pub(crate) to: usize,
@@ -66,7 +66,7 @@ pub(crate) struct Ahead {
 
 // A turn of a run, which takes the case at `from`: the part of the window that holds what is to come,
 // whether the file has ended, and how much output is gathered. Where no turn is left the run is over.
-#[derive(Drop)]
+#[derive(Clone, Copy)]
 pub struct Turn {
     pub left: u64,
     pub from: usize,

@@ -42,7 +42,7 @@ fn put_step(out: &mut [u8], n: usize, kind: u64, r: Stepped, last: bool) -> usiz
 }
 
 // The phy after an item, and how much output is gathered.
-#[derive(Drop)]
+#[derive(Clone, Copy)]
 struct After {
     next: Phy,
     n: usize,

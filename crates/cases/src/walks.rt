@@ -10,7 +10,7 @@ use identify::Identification;
 
 // How far a walk has come: a state of each machine, of which only the one that the kind names counts, a
 // phy's in a bay, where the case file is read next, and how much output is gathered.
-#[derive(Drop)]
+#[derive(Clone, Copy)]
 pub(crate) struct Walk {
     pub(crate) sync: u64,
     pub(crate) identification: Identification,

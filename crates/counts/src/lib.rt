@@ -53,7 +53,7 @@ pub const ANSWERS: [u64; COLUMNS] = [
 
 // What a question gives: a counter, and the number of a refusal.
 #[repr(C)]
-#[derive(Drop)]
+#[derive(Clone, Copy)]
 pub struct Count {
     pub count: u64,
     pub refusal: u64,

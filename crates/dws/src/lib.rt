@@ -42,7 +42,7 @@ const LOST: u64 = 2;
 
 // What a step gives: the state, the report, and the number of a refusal or 0.
 #[repr(C)]
-#[derive(Drop)]
+#[derive(Clone, Copy)]
 pub struct Stepped {
     pub state: u64,
     pub report: u64,

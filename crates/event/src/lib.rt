@@ -65,7 +65,7 @@ pub const MOST_ADDRESS: u64 = 18446744073709551615;
 
 // The six arguments of a Tx Open: a request while it waits, and what its answer carries.
 #[repr(C)]
-#[derive(Drop)]
+#[derive(Clone, Copy)]
 pub struct Open {
     pub destination: u64,
     pub protocol: u64,
@@ -77,7 +77,7 @@ pub struct Open {
 
 // A code and six arguments in the paper's order; those that an event lacks are zero.
 #[repr(C)]
-#[derive(Drop)]
+#[derive(Clone, Copy)]
 pub struct Event {
     pub code: u64,
     pub first: u64,
@@ -90,14 +90,14 @@ pub struct Event {
 
 // An event on a shelf: the number of the phy that it is for, and the event.
 #[repr(C)]
-#[derive(Drop)]
+#[derive(Clone, Copy)]
 pub struct ShelfEvent {
     pub number: u64,
     pub event: Event,
 }
 
 // An argument's range, both ends included.
-#[derive(Drop)]
+#[derive(Clone, Copy)]
 pub struct Range {
     pub least: u64,
     pub most: u64,

@@ -18,7 +18,7 @@ pub struct Row {
 }
 
 // A row after a step, and what the step gave.
-#[derive(Drop)]
+#[derive(Clone, Copy)]
 pub struct RowStepped {
     pub row: Row,
     pub stepped: Stepped,

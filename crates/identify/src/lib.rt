@@ -65,7 +65,7 @@ const FULL_TIMER: u64 = 1000;
 // Identify, the identify frame got, our own frame sent, the timer and the outcome. `typed`, `got` and
 // `sent` are flags as numbers, so that `valid` can judge whatever a C caller hands in.
 #[repr(C)]
-#[derive(Drop)]
+#[derive(Clone, Copy)]
 pub struct Identification {
     pub receiver: u64,
     pub count: u64,
@@ -77,7 +77,7 @@ pub struct Identification {
 }
 
 #[repr(C)]
-#[derive(Drop)]
+#[derive(Clone, Copy)]
 pub struct Stepped {
     pub next: Identification,
     pub report: u64,

@@ -20,7 +20,7 @@ const MOST_COLUMNS: usize = 10;
 
 // What the next line is of: the header, what stands at a place of the trace, a trace that is too long,
 // or nothing more, the trace having been listed to its end or not.
-#[derive(Drop)]
+#[derive(Clone, Copy)]
 pub enum Progress {
     Header,
     Events { place: usize, count: u64 },
@@ -29,7 +29,7 @@ pub enum Progress {
 }
 
 // What writing a line did: the progress after it and how many bytes it wrote, or why it wrote none.
-#[derive(Drop)]
+#[derive(Clone, Copy)]
 pub enum LineWritten {
     Line { next: Progress, length: usize },
     Done { whole: bool },

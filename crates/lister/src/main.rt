@@ -27,7 +27,7 @@ const LAST_DIGIT: usize = 57;
 const MOST_ARGUMENT: usize = 20;
 
 // What became of the trace: listed to its end, damaged or too long, not all of it written, or not read.
-#[derive(Drop)]
+#[derive(Clone, Copy)]
 enum Outcome {
     Whole,
     Damaged,
@@ -36,7 +36,7 @@ enum Outcome {
 }
 
 // The input: how long it is, or that it cannot be read.
-#[derive(Drop)]
+#[derive(Clone, Copy)]
 enum Input {
     Length(usize),
     Unread,

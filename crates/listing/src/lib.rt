@@ -16,7 +16,7 @@ use lines::{LineWritten, Progress, put_end, put_line, put_stop, put_too_long};
 use trace::EventRead;
 
 // What asking for a line did, and the bay after it.
-#[derive(Drop)]
+#[derive(Clone, Copy)]
 pub struct Listed {
     pub bay: Bay,
     pub written: LineWritten,
@@ -24,7 +24,7 @@ pub struct Listed {
 
 // What the line of an event says behind its place: the event's code, what the step reported, of two
 // notices the last, and the phy after it.
-#[derive(Drop)]
+#[derive(Clone, Copy)]
 pub(crate) struct Columns {
     pub(crate) event: u64,
     pub(crate) refusal: u64,

@@ -11,7 +11,7 @@ const HIGH: u64 = 128;
 const MOST_BETWEEN: usize = 8;
 
 // What stands at a place: a value and the place after it, or why there is none.
-#[derive(Drop)]
+#[derive(Clone, Copy)]
 pub enum NumberRead {
     Value { value: u64, next: usize },
     Cut,
@@ -19,7 +19,7 @@ pub enum NumberRead {
 }
 
 // What writing did: how many bytes it wrote, or that there is no room, and nothing was written.
-#[derive(Drop)]
+#[derive(Clone, Copy)]
 pub enum NumberWritten {
     Length(usize),
     NoRoom,

@@ -26,13 +26,13 @@ pub use ticks::last_tick;
 
 // What outlives every move but a reset: flags.
 #[repr(C)]
-#[derive(Drop)]
+#[derive(Clone, Copy)]
 pub struct Settings {
     pub accept: u64,
 }
 
 // How long a request has waited: its wait, and from 32,768 on what has passed of the next millisecond.
-#[derive(Drop)]
+#[derive(Clone, Copy)]
 pub struct Waited {
     pub wait: u64,
     pub part: u64,
@@ -42,7 +42,7 @@ pub struct Waited {
 // that the request has waited beyond its wait is kept in P2. Who opens us, and by which protocol, is kept
 // in L2; `farClosed` is a flag, that the far end has closed.
 #[repr(C)]
-#[derive(Drop)]
+#[derive(Clone, Copy)]
 pub struct Phy {
     pub link: u64,
     pub port: u64,
@@ -60,7 +60,7 @@ pub struct Phy {
 // What a step gives: the phy, an answer with the arguments of its Open, a notice, a primitive sent and
 // the number of a refusal, each 0 where there is none.
 #[repr(C)]
-#[derive(Drop)]
+#[derive(Clone, Copy)]
 pub struct Stepped {
     pub next: Phy,
     pub answered: Open,

@@ -21,7 +21,7 @@ pub const THE_PORT: u64 = 127;
 // What an event reports: an answer with the arguments of its Open, at most two notices, a primitive sent,
 // each with its tick, and the number of a refusal; each 0 where there is none.
 #[repr(C)]
-#[derive(Drop)]
+#[derive(Clone, Copy)]
 pub struct Reports {
     pub answered: Open,
     pub answer: Report,
@@ -34,7 +34,7 @@ pub struct Reports {
 // What a step gives: the event's own reports, the phy that then received an Open, 127 where none did, and
 // what that phy sent.
 #[repr(C)]
-#[derive(Drop)]
+#[derive(Clone, Copy)]
 pub struct Stepped {
     pub reports: Reports,
     pub handed: u64,
@@ -42,7 +42,7 @@ pub struct Stepped {
 }
 
 // What a survey of the row gathers: how many records, which are free, and whether all are valid.
-#[derive(Drop)]
+#[derive(Clone, Copy)]
 pub struct Scan {
     pub count: u64,
     pub free: u64,
@@ -50,7 +50,7 @@ pub struct Scan {
 }
 
 // Where a port stands between events: how many phys, which of them are free, how many Opens wait.
-#[derive(Drop)]
+#[derive(Clone, Copy)]
 pub struct Standing {
     pub count: u64,
     pub free: u64,
@@ -58,14 +58,14 @@ pub struct Standing {
 }
 
 // Whether a port is valid, and where it stands.
-#[derive(Drop)]
+#[derive(Clone, Copy)]
 pub struct Judged {
     pub valid: bool,
     pub standing: Standing,
 }
 
 // What an event makes of the one record that it concerns, where the port then stands, and what is reported.
-#[derive(Drop)]
+#[derive(Clone, Copy)]
 pub struct Taken {
     pub bay: Bay,
     pub standing: Standing,

@@ -29,7 +29,7 @@ const NO_OPEN: Open = Open {
 };
 
 // Whether numbers are Opens as they are lent, and how many of these wait.
-#[derive(Drop)]
+#[derive(Clone, Copy)]
 pub struct Judgement {
     pub good: bool,
     pub waiting: u64,

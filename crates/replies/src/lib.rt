@@ -19,7 +19,7 @@ use trace::{EventRead, EventWritten};
 
 // The number at a place, and the place after it.
 #[repr(C)]
-#[derive(Drop)]
+#[derive(Clone, Copy)]
 pub struct NumberReply {
     pub value: u64,
     pub next: usize,
@@ -28,7 +28,7 @@ pub struct NumberReply {
 
 // How many bytes were written, or why none.
 #[repr(C)]
-#[derive(Drop)]
+#[derive(Clone, Copy)]
 pub struct WriteReply {
     pub length: usize,
     pub refusal: u64,
@@ -36,7 +36,7 @@ pub struct WriteReply {
 
 // What stands at a place of a trace, and the place reached.
 #[repr(C)]
-#[derive(Drop)]
+#[derive(Clone, Copy)]
 pub struct EventReply {
     pub event: Event,
     pub next: usize,
@@ -46,7 +46,7 @@ pub struct EventReply {
 
 // How a run stopped: at a fault with its number and place, or refused.
 #[repr(C)]
-#[derive(Drop)]
+#[derive(Clone, Copy)]
 pub struct StopReply {
     pub how: u64,
     pub fault: u64,
@@ -56,7 +56,7 @@ pub struct StopReply {
 
 // What a run gives: the phy with its recorder's clock.
 #[repr(C)]
-#[derive(Drop)]
+#[derive(Clone, Copy)]
 pub struct RunReply {
     pub next: Bay,
     pub count: usize,

@@ -16,7 +16,7 @@ use trace::EventRead;
 
 // How a run stopped: at the trace's end, at the budget, at a fault with the place of its event, or
 // refused before the first event.
-#[derive(Drop)]
+#[derive(Clone, Copy)]
 pub enum Stop {
     End,
     Budget,
@@ -28,7 +28,7 @@ pub enum Stop {
 }
 
 // What a run gives back: the state, the number of events taken, and how it stopped.
-#[derive(Drop)]
+#[derive(Clone, Copy)]
 pub struct Ran {
     pub next: Bay,
     pub count: usize,
@@ -36,14 +36,14 @@ pub struct Ran {
 }
 
 // What comes behind events that are no stamps: a stamp with the place after it, or nothing more.
-#[derive(Drop)]
+#[derive(Clone, Copy)]
 pub(crate) enum Behind {
     Stamp { counter: u64, next: usize },
     Stop(Stop),
 }
 
 // How far such events went.
-#[derive(Drop)]
+#[derive(Clone, Copy)]
 pub(crate) struct Gone {
     pub(crate) phy: Phy,
     pub(crate) count: usize,

@@ -11,7 +11,7 @@ use trace::{EventRead, EventWritten, Reader};
 
 // What stands at a place: an event on the shelf and the place after it, the end of the trace, or why there is
 // none. A refusal has the place of the phy number's first byte.
-#[derive(Drop)]
+#[derive(Clone, Copy)]
 pub enum ShelfRead {
     Event { event: ShelfEvent, next: usize },
     End,

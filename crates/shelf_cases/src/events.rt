@@ -28,7 +28,7 @@ const NO_EVENT: Event = Event {
 };
 
 // What reading gave: how it ended, the refusal, the place reached, and the event on the shelf.
-#[derive(Drop)]
+#[derive(Clone, Copy)]
 struct Found {
     how: u64,
     refusal: u64,
@@ -38,7 +38,7 @@ struct Found {
 }
 
 // What writing gave: the refusal, and how many bytes.
-#[derive(Drop)]
+#[derive(Clone, Copy)]
 struct Stored {
     refusal: u64,
     length: usize,

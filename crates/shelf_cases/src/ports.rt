@@ -14,21 +14,21 @@ pub(crate) const MOST_QUEUE: usize = queue::LENGTH + 1;
 const CLOCK: usize = 2;
 
 // A bay, and the place after it.
-#[derive(Drop)]
+#[derive(Clone, Copy)]
 struct BayTaken {
     bay: Bay,
     next: usize,
 }
 
 // A row of bays, and the place after it.
-#[derive(Drop)]
+#[derive(Clone, Copy)]
 struct RowTaken {
     row: Row,
     next: usize,
 }
 
 // A row and how many of its bays count, how many numbers the queue has, and the place after them.
-#[derive(Drop)]
+#[derive(Clone, Copy)]
 pub(crate) struct PortTaken {
     pub(crate) row: Row,
     pub(crate) count: usize,

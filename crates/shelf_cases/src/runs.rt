@@ -11,7 +11,7 @@ use output::put_line;
 use shelf_run::Ran;
 
 // A row after a run, and what the run told.
-#[derive(Drop)]
+#[derive(Clone, Copy)]
 struct RowRan {
     row: Row,
     ran: Ran,
@@ -49,7 +49,7 @@ fn put_ran(out: &mut [u8], n: usize, kind: u64, ran: Ran) -> usize {
 
 // How far the runs of a case have come: the row, where the case file is read next, and how much output is
 // gathered.
-#[derive(Drop)]
+#[derive(Clone, Copy)]
 struct Gone {
     row: Row,
     next: usize,
@@ -82,7 +82,7 @@ fn put_run(
 }
 
 // How much of a buffer is lent, and where the case file is read next.
-#[derive(Drop)]
+#[derive(Clone, Copy)]
 struct Painted {
     length: usize,
     next: usize,

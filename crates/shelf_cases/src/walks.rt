@@ -9,7 +9,7 @@ use output::{end_line, put_more, put_numbers};
 use port::Stepped;
 
 // How far a walk has come: the row, where the case file is read next, and how much output is gathered.
-#[derive(Drop)]
+#[derive(Clone, Copy)]
 struct Walk {
     row: Row,
     next: usize,

@@ -26,21 +26,21 @@ pub struct Shelf {
 }
 
 // What asking for a line did, and the shelf after it.
-#[derive(Drop)]
+#[derive(Clone, Copy)]
 pub struct Listed {
     pub shelf: Shelf,
     pub written: LineWritten,
 }
 
 // Link and port of a phy.
-#[derive(Drop)]
+#[derive(Clone, Copy)]
 pub(crate) struct States {
     pub(crate) link: u64,
     pub(crate) port: u64,
 }
 
 // What the line of an event says behind its place.
-#[derive(Drop)]
+#[derive(Clone, Copy)]
 pub(crate) struct Columns {
     pub(crate) phy: u64,
     pub(crate) event: u64,
@@ -55,7 +55,7 @@ pub(crate) struct Columns {
 }
 
 // The shelf after an event, and the event's columns.
-#[derive(Drop)]
+#[derive(Clone, Copy)]
 struct Turn {
     shelf: Shelf,
     columns: Columns,

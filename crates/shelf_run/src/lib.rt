@@ -12,7 +12,7 @@ pub use row::run;
 
 // What a run tells: the number of events taken, and how it stopped.
 #[repr(C)]
-#[derive(Drop)]
+#[derive(Clone, Copy)]
 pub struct Ran {
     pub count: usize,
     pub stop: StopReply,
@@ -25,7 +25,7 @@ pub(crate) struct Table {
 }
 
 // A table after a run, and what the run tells.
-#[derive(Drop)]
+#[derive(Clone, Copy)]
 pub(crate) struct Gone {
     pub(crate) table: Table,
     pub(crate) ran: Ran,

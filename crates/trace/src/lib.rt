@@ -13,7 +13,7 @@ use number::{NumberRead, NumberWritten};
 
 // What stands at a place: an event and the place after it, the end of the trace, or why there is none.
 // A refusal has the place of the event's first byte.
-#[derive(Drop)]
+#[derive(Clone, Copy)]
 pub enum EventRead {
     Event { event: Event, next: usize },
     End,
@@ -23,7 +23,7 @@ pub enum EventRead {
 }
 
 // What writing did: how many bytes it wrote, or why it wrote none.
-#[derive(Drop)]
+#[derive(Clone, Copy)]
 pub enum EventWritten {
     Length(usize),
     BadEvent,

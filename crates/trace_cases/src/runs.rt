@@ -29,7 +29,7 @@ fn put_ran(out: &mut [u8], n: usize, kind: u64, r: RunReply) -> usize {
 }
 
 // The phy after a run, and how much output is gathered.
-#[derive(Drop)]
+#[derive(Clone, Copy)]
 struct After {
     state: Phy,
     n: usize,
@@ -57,7 +57,7 @@ fn put_run(
 
 // How far the runs of a case have come: the state, where the case file is read next, and how much output
 // is gathered.
-#[derive(Drop)]
+#[derive(Clone, Copy)]
 struct Gone {
     state: Phy,
     next: usize,

@@ -1,0 +1,16 @@
+-- `phy::ticks::tick_requesting` meets its contract: its test is the definition's.
+use borrow.Author.Tests.{le-leb, lt-leb}
+use Rattle.phy.specs.Ticks.{tick_requesting}
+use Rattle.phy.proofs.ticks.tick_requesting.Goals as goal
+
+pub returns-then-p-le1 : goal.returns-then-p-le1
+unfolding tick_requesting
+returns-then-p-le1 c = simp (c.open_failed.ensures, le-leb _ _ c.if-p-le1.true)
+
+pub counted-requires : goal.counted-requires
+unfolding tick_requesting
+counted-requires c = c.if-p-le1.false
+
+pub returns : goal.returns
+unfolding tick_requesting
+returns c = simp (c.counted.ensures, lt-leb _ _ c.if-p-le1.false)

@@ -1,0 +1,19 @@
+-- `trace::event_length` meets its contract: each turn adds the bytes of one number, ten at most.
+use Prim.Native.Nat.{suc, ◌-◌}
+use mathlib.Core.Path.{ap, ◌∙◌}
+use native.Mathlib.Omega.{arith}
+use lib.ListN.{length}
+use Rattle.trace.proofs.WriteLoop.{Counted, sound, event_bytes_lem, counted_start, counted_on, counted_done}
+use Rattle.trace.proofs.event_length.Goals as goal
+
+pub loop-i-init : goal.loop-i-init
+loop-i-init c =
+    counted_start (rw (c.argument_count-count.ensures, c.all_numbers-numbers.ensures) (sound c.args.e c.requires))
+
+pub loop-i-preserved : goal.loop-i-preserved
+loop-i-preserved c = rw c.number_length-length.ensures (counted_on c.loop-i.invariant c.loop-i-test.true)
+
+pub returns : goal.returns
+returns c =
+    counted_done c.loop-i.invariant (omega arith)
+    ∙ ap length (event_bytes_lem c.argument_count-count.ensures c.all_numbers-numbers.ensures)
