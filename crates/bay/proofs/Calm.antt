@@ -1,12 +1,12 @@
 -- Ticks that do not move the link: they report nothing, and n of them lead to `later`.
-use Rattle.std.proofs.Common.{◌≡◌, ℕ, zero, suc, ◌+◌, ◌-◌, ◌<◌, ◌≤◌, true, ◌||◌, eqb, leb, List, [], ◌++◌, sym, refl, ap, ◌∙◌, subst, ⊎_elim, add-one, arith, eqb-true, le-leb, leb-true}
+use Rattle.std.proofs.Common.{◌≡◌, ℕ, zero, suc, ◌-◌, ◌<◌, ◌≤◌, true, ◌||◌, eqb, leb, List, [], ◌++◌, sym, refl, ap, ◌∙◌, subst, ⊎_elim, add-one, arith, eqb-true, le-leb, leb-true}
 use Rattle.table.proofs.Laws.{by_test}
 use Rattle.event.specs.Names.{tick, most_wait}
 use Rattle.event.specs.Table.{argument_range, arguments_known, known_of}
 use Rattle.phy.specs.Names.{P2, most_part}
 use Rattle.phy.specs.Shapes.{with_timer, with_waited, quiet}
 use Rattle.phy.specs.State.{valid_part, valid_of}
-use Rattle.phy.specs.Ticks.{longer, waited_of, aged, on_tick}
+use Rattle.phy.specs.Ticks.{waited_of, aged, on_tick}
 use Rattle.phy.specs.Step.{move_of, step_of}
 use Rattle.phy.specs.declared.Phy.{Phy}
 use Rattle.phy.specs.declared.Stepped.{Stepped}

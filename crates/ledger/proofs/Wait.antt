@@ -13,7 +13,7 @@ use Rattle.phy.specs.State.{valid_part}
 use Rattle.phy.specs.Ticks.{longer}
 use Rattle.phy.specs.declared.Waited.{Waited}
 use Rattle.phy_laws.proofs.Tests.{in_range_lem}
-use Rattle.ledger.specs.Wait.{millisecond, meant, microseconds, in_field, waited_for, InP2, ticks, TicksGive, WaitsAdd, OneMore, AtTheEnds, TrueAfter}
+use Rattle.ledger.specs.Wait.{millisecond, meant, microseconds, in_field, waited_for, InP2, TicksGive, WaitsAdd, OneMore, AtTheEnds, TrueAfter}
 
 -- ---- the two slopes, by their numbers
 

@@ -7,7 +7,7 @@ use Rattle.phy.specs.Shapes.{◌and◌, no_open, with_wait}
 use Rattle.phy.specs.declared.Waited.{Waited}
 use Rattle.phy_laws.specs.Waiting.{is_answer}
 use Rattle.ledger.specs.Wait.{waited_for}
-use Rattle.ledger.specs.Log.{Entry, accepted, answered, ticked, ticked_in_p2, heard_aip}
+use Rattle.ledger.specs.Log.{Entry, accepted, ticked, ticked_in_p2, heard_aip}
 
 -- the ticks by which an Open is answered, if k AIPs are heard
 abbrev pub due : ℕ → ℕ

@@ -1,6 +1,5 @@
 -- `event::argument_count` meets its contract: each arm is a row's length.
 use mathlib.Core.Path.{ap, ◌∙◌}
-use borrow.Author.Rules.{rules}
 use mir.Val.{bool_byte}
 use Rattle.event.specs.Table.{argument_count}
 use Rattle.event.proofs.Others.{other_count}

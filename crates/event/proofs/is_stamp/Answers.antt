@@ -1,7 +1,6 @@
 -- `event::is_stamp` meets its contract: up to a phy's last code none is the stamp's.
 use mathlib.Core.Path.{sym}
 use native.Mathlib.Omega.{arith}
-use borrow.Author.Rules.{rules}
 use borrow.Author.Tests.{ne_eqb}
 use Rattle.event.specs.Names.{time_stamp}
 use Rattle.event.proofs.is_stamp.Goals as goal

@@ -1,5 +1,4 @@
 -- `identify::counted` meets its contract: a ninth dword is behind its own test, and the type is the definition's.
-use native.Mathlib.Omega.{arith}
 use borrow.Author.Tests.{le-leb, lt-leb}
 use Rattle.identify.specs.Step.{counted}
 use Rattle.identify.proofs.counted.Goals as goal

@@ -1,5 +1,4 @@
 -- `identify::on_tick` meets its contract: a timer that is not 0 has a tick to give.
-use native.Mathlib.Omega.{arith}
 use borrow.Author.Tests.{eq-eqb, ne_eqb}
 use Rattle.identify.specs.Step.{on_tick}
 use Rattle.identify.proofs.on_tick.Goals as goal

@@ -1,6 +1,5 @@
 -- `number::number_length` meets its contract: each turn takes one group off and counts it.
-use native.Mathlib.Omega.{arith}
-use Rattle.number.proofs.Loops.{Counted, counted_start, counted_on, counted_done}
+use Rattle.number.proofs.Loops.{counted_start, counted_on, counted_done}
 use Rattle.number.proofs.number_length.Goals as goal
 
 pub loop-rest-init : goal.loop-rest-init

@@ -1,12 +1,7 @@
 -- `number::read_number` meets its contract: each turn takes one group off the definition, and the groups passed stay below their weight.
-use Prim.Native.Nat.{ℕ, ◌+◌, ◌≤◌, ◌<◌}
-use mathlib.Core.List.{List}
 use mathlib.Core.Path.{sym}
 use native.Mathlib.Omega.{arith}
-use lib.ListN.{length}
-use Rattle.number.specs.Reading.{most_later}
-use Rattle.number.proofs.Loops.{Passed, first_cut, first_last, passed_start, passed_cut, last_fits, more_fits, weight_fits, passed_on, passed_last, tenth_fits, tenth_large, tenth_last}
-use Rattle.number.proofs.read_number.Invariants.{Ends}
+use Rattle.number.proofs.Loops.{first_cut, first_last, passed_start, passed_cut, last_fits, more_fits, weight_fits, passed_on, passed_last, tenth_fits, tenth_large, tenth_last}
 use Rattle.number.proofs.read_number.Goals as goal
 
 pub returns-then-s-place : goal.returns-then-s-place

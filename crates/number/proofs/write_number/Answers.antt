@@ -1,8 +1,6 @@
 -- `number::write_number` meets its contract: the length found is that of the bytes, and each turn of the loop stores one of them.
 use native.Mathlib.Omega.{arith}
-use borrow.Author.Rules.{rules}
-use lib.ListN.{length-set}
-use Rattle.number.proofs.Loops.{Writing, writing_start, writing_on, writing_done, no_room_lem, with_room}
+use Rattle.number.proofs.Loops.{writing_start, writing_on, writing_done, no_room_lem, with_room}
 use Rattle.number.proofs.write_number.Goals as goal
 
 pub returns-then-buffer-place : goal.returns-then-buffer-place

@@ -1,8 +1,5 @@
 -- `number::write_number` meets its contract: the length found is that of the bytes, and each turn of the loop stores one of them.
-use native.Mathlib.Omega.{arith}
-use borrow.Author.Rules.{rules}
-use lib.ListN.{length-set}
-use Rattle.number.proofs.Loops.{Writing, writing_start, writing_on, writing_done, no_room_lem, with_room}
+use Rattle.number.proofs.Loops.{Writing}
 use Rattle.number.proofs.write_number.Given as goal
 
 abbrev pub invariant-loop-rest : goal.invariant-loop-rest

@@ -1,5 +1,4 @@
 -- `bay::reports::both_legs` meets its contract: each part is the definition's.
-use Rattle.std.proofs.Common.{arith}
 use Rattle.bay.proofs.reports.both_legs.Goals as goal
 
 pub returns : goal.returns

@@ -1,5 +1,5 @@
 -- `bay::wait::in_field` meets its contract: its test is the definition's.
-use Rattle.std.proofs.Common.{arith, le-ltb, lt-ltb}
+use Rattle.std.proofs.Common.{le-ltb, lt-ltb}
 use Rattle.ledger.specs.Wait.{in_field}
 use Rattle.bay.proofs.wait.in_field.Goals as goal
 

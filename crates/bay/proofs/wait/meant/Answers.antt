@@ -1,5 +1,5 @@
 -- `bay::wait::meant` meets its contract: its test is the definition's.
-use Rattle.std.proofs.Common.{arith, le-ltb, lt-ltb}
+use Rattle.std.proofs.Common.{le-ltb, lt-ltb}
 use Rattle.ledger.specs.Wait.{meant}
 use Rattle.bay.proofs.wait.meant.Goals as goal
 

@@ -1,7 +1,7 @@
 -- `phy::ticks::last_tick` meets its contract: with its timer over each arm is a row of a tick, and the rest is the default.
 use mathlib.Core.Path.{sym}
 use Rattle.table.proofs.Laws.{unlisted}
-use Rattle.phy.specs.Shapes.{with_timer, quiet}
+use Rattle.phy.specs.Shapes.{with_timer}
 use Rattle.phy.specs.Moves.{to_idle}
 use Rattle.phy.specs.Ticks.{tick_requesting, tick_closing, tick_breaking, accepted, tick_selected, tick_rows, on_tick_aged, last_tick}
 use Rattle.phy.proofs.ticks.last_tick.Goals as goal
