@@ -5,7 +5,7 @@ use mathlib.Core.Path.{◌≡◌, refl, sym, ap, ap₂, subst, ◌∙◌}
 use native.Mathlib.Omega.{arith}
 use lib.ListN.{length, take, drop, replicate, drop_of_length-le}
 use lib.Seq.{take_all}
-use denote.Ref.{MutBor}
+use denote.Ref.{Bor}
 use Rattle.table.proofs.Laws.{apart}
 use Rattle.event.specs.Table.{event_of}
 use Rattle.event.specs.declared.Event.{Event}
@@ -112,4 +112,4 @@ called_back es before after last w trace start middle there rs r same new c long
     let g = first_events trace start middle es p.last rs new p.passes c (omega arith) in
     let at_last : middle.place ≡ p.last = no_more (subst (λ (l : List Event). Passes trace.now middle.place l p.last) (drop_of_length-le es {i = length rs} (omega arith)) g.others) in
     let held : middle.trace ≡ trace = trace_kept c ∙ ap (λ (m : Reader). m.trace) new in
-    (g.events ∙ take_all (length rs) es (omega arith), t.says ∙ ap₂ (λ (l : MutBor (List ℕ)) (n : ℕ). read_event l.now n) held at_last ∙ p.over)
+    (g.events ∙ take_all (length rs) es (omega arith), t.says ∙ ap₂ (λ (l : Bor (List ℕ)) (n : ℕ). read_event l.now n) held at_last ∙ p.over)

@@ -12,4 +12,3 @@ pub mod RoundTrip
 pub mod Written
 pub mod Calls
 pub mod Padded
-pub mod Walk

@@ -1,9 +1,8 @@
 -- `trace::event_length` meets its contract: each turn adds the bytes of one number, ten at most.
-use Prim.Native.Nat.{suc, ◌-◌}
 use mathlib.Core.Path.{ap, ◌∙◌}
 use native.Mathlib.Omega.{arith}
 use lib.ListN.{length}
-use Rattle.trace.proofs.WriteLoop.{Counted, sound, event_bytes_lem, counted_start, counted_on, counted_done}
+use Rattle.trace.proofs.WriteLoop.{sound, event_bytes_lem, counted_start, counted_on, counted_done}
 use Rattle.trace.proofs.event_length.Goals as goal
 
 pub loop-i-init : goal.loop-i-init
@@ -17,3 +16,6 @@ pub returns : goal.returns
 returns c =
     counted_done c.loop-i.invariant (omega arith)
     ∙ ap length (event_bytes_lem c.argument_count-count.ensures c.all_numbers-numbers.ensures)
+
+pub overflow_add-length : goal.overflow_add-length
+overflow_add-length c = omega (arith, (counted_on c.loop-i.invariant c.loop-i-test.true).most, c.number_length-length.ensures)

@@ -1,12 +1,9 @@
 -- `trace::read_arguments` meets its contract: each turn takes one argument off the definition, and a fault is the whole answer.
-use Prim.Native.Nat.{◌-◌}
-use mathlib.Core.Path.{sym, ap, ◌∙◌}
+use mathlib.Core.Path.{sym, ap}
 use native.Mathlib.Omega.{arith}
-use borrow.Author.Rules.{rules}
-use Rattle.number.specs.Reading.{value, tells}
 use Rattle.trace.specs.Reading.{said}
 use Rattle.trace.proofs.Known.{six_arguments}
-use Rattle.trace.proofs.ReadLoop.{Taken, taken_start, taken_fault, taken_bad, taken_on, taken_done}
+use Rattle.trace.proofs.ReadLoop.{taken_start, taken_fault, taken_bad, taken_on, taken_done}
 use Rattle.trace.proofs.read_arguments.Goals as goal
 
 pub loop-i-init : goal.loop-i-init
@@ -21,11 +18,18 @@ bounds-values-i c = omega (arith, six_arguments c.args.code)
 pub loop-i-preserved : goal.loop-i-preserved
 loop-i-preserved c =
     taken_on c.loop-i.invariant (omega arith)
-    (sym c.read_number.ensures ∙ ap tells c.in-Value.value.1)
+    (sym c.in-Value.ensures)
     (rw (← c.argument_range-range.ensures) c.if-least-value.true)
 
 pub returns-in-TooLarge : goal.returns-in-TooLarge
-returns-in-TooLarge c = sym (ap (said _) (taken_fault c.loop-i.invariant (omega arith) (sym c.read_number.ensures ∙ ap tells c.in-TooLarge.is.1)))
+returns-in-TooLarge c = sym (ap (said _) (taken_fault c.loop-i.invariant (omega arith) (sym c.in-TooLarge.ensures)))
 
 pub returns : goal.returns
 returns c = sym (ap (said _) (taken_done c.loop-i.invariant (omega arith)))
+
+pub returns-in-Cut : goal.returns-in-Cut
+returns-in-Cut c = sym (ap (said _) (taken_fault c.loop-i.invariant (omega arith) (sym c.in-Cut.ensures)))
+
+pub returns-else-least-value : goal.returns-else-least-value
+returns-else-least-value c =
+    sym (ap (said _) (taken_bad c.loop-i.invariant (omega arith) (sym c.in-Value.ensures) (rw (← c.argument_range-range.ensures) c.if-least-value.false)))
