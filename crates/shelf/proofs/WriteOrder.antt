@@ -15,8 +15,8 @@ use Rattle.event.specs.Table.{known_in_trace}
 use Rattle.event.specs.declared.ShelfEvent.{ShelfEvent}
 use Rattle.trace.specs.Writing.{wrote, event_bytes}
 use Rattle.trace.specs.Promises.{WritesEvent}
-use Rattle.trace.specs.declared.EventWritten.TheVariants.{Length, BadEvent, NoRoom}
-use Rattle.trace.proofs.Refusals.{writer_bad_event_exactly, no_room_exactly, refused_keeps}
+use Rattle.trace.specs.declared.EventWritten.TheVariants.{Length, NoRoom}
+use Rattle.trace.proofs.Refusals.{no_room_exactly, refused_keeps}
 use Rattle.trace.proofs.RoundTrip.{Fits, fitted}
 use Rattle.shelf.specs.Writing.{shelf_bytes, shelf_fits}
 use Rattle.shelf.specs.Promises.{WritesShelf}
@@ -46,16 +46,13 @@ sets_before buffer (x ∷ xs) ys at behind e =
     ap (λ (l : List ℕ). sets l (suc at) xs) (set_first buffer at behind x ys (omega arith))
     ∙ sets_before (set buffer at x) xs ys (suc at) behind (omega arith)
 
--- ---- the contract: not known, known and without room, known and with room
+-- ---- the contract, where the event is known: without room and with room
 
 pub long : (e : ShelfEvent) → length (shelf_bytes e) ≡ length (number_bytes e.number) + length (event_bytes e.event)
 unfolding shelf_bytes
 long e = simp length-append (omega arith)
 
 module _ (e : ShelfEvent) (before : List ℕ) (place : ℕ) where
-  pub not_known : known_in_trace e.event ≡ false → WritesShelf e before place BadEvent before
-  not_known k = record { says = rw k refl; leaves = rw k refl }
-
   pub no_room_lem : known_in_trace e.event ≡ true → length before < place + length (shelf_bytes e) → WritesShelf e before place NoRoom before
   no_room_lem k h =
       let f : shelf_fits e before place ≡ false = lt-leb (place + length (shelf_bytes e)) (length before) h in
@@ -63,11 +60,6 @@ module _ (e : ShelfEvent) (before : List ℕ) (place : ℕ) where
 
   -- the number takes `ahead` bytes, behind which the event was written
   module _ {ahead : ℕ} (l : ahead ≡ length (number_bytes e.number)) {middle : List ℕ} where
-    pub event_refused : WritesEvent e.event before (place + ahead) BadEvent middle → WritesShelf e before place BadEvent middle
-    event_refused c =
-        rw (c.leaves, (refused_keeps e.event before (place + ahead) _ (sym c.says)).1)
-        (not_known ((writer_bad_event_exactly e.event before (place + ahead)).0 (sym c.says)))
-
     pub event_without_room : WritesEvent e.event before (place + ahead) NoRoom middle → WritesShelf e before place NoRoom middle
     event_without_room c =
         let w = (no_room_exactly e.event before (place + ahead)).0 (sym c.says) in
@@ -77,7 +69,7 @@ module _ (e : ShelfEvent) (before : List ℕ) (place : ℕ) where
       event_fits : Fits e.event before (place + ahead) n
       event_fits = fitted e.event before (place + ahead) n (sym c.says)
 
-      pub both_fit : place + ahead + n ≤ length before
+      both_fit : place + ahead + n ≤ length before
       both_fit = omega (arith, event_fits)
 
       -- so the number has room too

@@ -1,11 +1,11 @@
 -- The invariants of the writer's loops: the numbers that are left, from here on, give the whole length and the whole buffer.
 use Prim.Native.Nat.{ℕ, suc, ◌+◌, ◌*◌, ◌^◌, ◌≤◌, ◌<◌}
-use mathlib.Core.Bool.{true, false}
+use mathlib.Core.Bool.{true}
 use mathlib.Core.List.{List, [], ◌++◌}
 use mathlib.Core.Path.{◌≡◌, refl, sym, ap, ap₂, ◌∙◌}
 use native.Mathlib.Numerals.{add-one}
 use native.Mathlib.Omega.{arith}
-use borrow.Author.Tests.{le-leb, lt-leb}
+use borrow.Author.Tests.{le-leb}
 use lib.ListN.{length, take, drop, get_or, length-append, drop_of_length-le}
 use lib.Seq.{drop-cons, sets, length-sets, get_or-take, length-take-le}
 use Rattle.table.proofs.Stores.{sets_on}
@@ -19,7 +19,7 @@ use Rattle.event.specs.Table.{argument_count, known_in_trace}
 use Rattle.event.specs.declared.Event.{Event}
 use Rattle.trace.specs.Writing.{wrote, bytes_of, all_numbers, event_bytes, fits}
 use Rattle.trace.specs.Promises.{WritesEvent}
-use Rattle.trace.specs.declared.EventWritten.TheVariants.{Length, BadEvent, NoRoom}
+use Rattle.trace.specs.declared.EventWritten.TheVariants.{Length}
 use Rattle.trace.proofs.Known.{six_arguments, numbers_small}
 
 -- ---- the numbers that the writer goes through: as many as the event has, each of at most 64 bits
@@ -126,19 +126,12 @@ module _ {count : ℕ} {numbers before : List ℕ} {place : ℕ} {buffer : List 
   pub filling_done : suc count ≤ i → buffer ≡ sets before place (bytes_of (take (suc count) numbers))
   filling_done h = sym (ap (sets buffer at) (no_number w.fine i h)) ∙ w.whole
 
--- ---- the contract: not known, known and without room, known and with room
+-- ---- the contract of `write_event`, where the event is known and its bytes fit
 
-pub not_known : (e : Event) (before : List ℕ) (place : ℕ) → known_in_trace e ≡ false → WritesEvent e before place BadEvent before
-not_known e before place k = record { says = rw k refl; leaves = rw k refl }
-
-module _ (e : Event) (before : List ℕ) (place : ℕ) (k : known_in_trace e ≡ true) where
-  pub no_room_lem : length before < place + length (event_bytes e) → WritesEvent e before place NoRoom before
-  no_room_lem h =
-      let f : fits e before place ≡ false = lt-leb (place + length (event_bytes e)) (length before) h in
-      record { says = rw (k, f) refl; leaves = rw (k, f) refl }
-
-  pub with_room : {n : ℕ} {after : List ℕ} → place + length (event_bytes e) ≤ length before → n ≡ length (event_bytes e) → after ≡ sets before place (event_bytes e)
-      → WritesEvent e before place (Length n) after
-  with_room h l b =
-      let f : fits e before place ≡ true = le-leb (place + length (event_bytes e)) (length before) h in
-      record { says = rw (k, f) (ap wrote l); leaves = rw (k, f) b }
+pub with_room :
+    (e : Event) (before : List ℕ) (place : ℕ) → known_in_trace e ≡ true → {n : ℕ} {after : List ℕ}
+    → place + length (event_bytes e) ≤ length before → n ≡ length (event_bytes e) → after ≡ sets before place (event_bytes e)
+    → WritesEvent e before place (Length n) after
+with_room e before place k h l b =
+    let f : fits e before place ≡ true = le-leb (place + length (event_bytes e)) (length before) h in
+    record { says = rw (k, f) (ap wrote l); leaves = rw (k, f) b }
