@@ -1,5 +1,6 @@
 -- What is promised of events of a shelf trace beyond the contracts. A heading names the files of proofs/.
-use Rattle.std.specs.Prelude.{ℕ, ◌+◌, ◌^◌, ◌≤◌, ◌<◌, true, false, List, [], ◌∷◌, map, ◌↔◌, ◌⊎◌, ◌≡◌, length, take, drop, replicate}
+use Rattle.std.specs.Prelude.{ℕ, ◌+◌, ◌^◌, ◌≤◌, ◌<◌, true, false, List, [], ◌∷◌}
+use Rattle.std.specs.Prelude.{map, ◌↔◌, ◌⊎◌, ◌≡◌, length, take, drop, replicate}
 use Rattle.std.specs.Borrow.{Bor}
 use Rattle.table.specs.Refusals.{bad_event, cut, too_large, no_room}
 use Rattle.table.specs.Results.{TellsOnce, Determines, DeterminesLent}

@@ -1,5 +1,6 @@
 -- What is promised of events of a trace beyond the contracts. A heading names the files of proofs/.
-use Rattle.std.specs.Prelude.{ℕ, ◌+◌, ◌≤◌, ◌<◌, true, false, List, [], ◌∷◌, map, ◌↔◌, ◌⊎◌, ◌≡◌, length, take, drop, replicate}
+use Rattle.std.specs.Prelude.{ℕ, ◌+◌, ◌≤◌, ◌<◌, true, false, List, [], ◌∷◌}
+use Rattle.std.specs.Prelude.{map, ◌↔◌, ◌⊎◌, ◌≡◌, length, take, drop, replicate}
 use Rattle.std.proofs.lemmas.List.Edits.{sets}
 use Rattle.std.specs.Borrow.{Bor}
 use Rattle.table.specs.Refusals.{bad_event, cut, too_large, no_room}
@@ -74,7 +75,8 @@ EventExactly =
 
 -- an event read is one that `known` accepts
 abbrev pub ReadKnown : Type 0
-ReadKnown = (s : List ℕ) (place : ℕ) (e : Event) (next : ℕ) → read_event s place ≡ event e next → known_in_trace e ≡ true
+ReadKnown =
+    (s : List ℕ) (place : ℕ) (e : Event) (next : ℕ) → read_event s place ≡ event e next → known_in_trace e ≡ true
 
 -- so the writer does not refuse it with 2
 abbrev pub ReadWritten : Type 0
