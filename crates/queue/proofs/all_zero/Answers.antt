@@ -1,9 +1,5 @@
 -- `queue::all_zero` meets its contract: each turn passes a number that is zero.
-use Prim.Native.Nat.{◌-◌}
-use mathlib.Core.Path.{◌≡◌, refl, sym, ◌∙◌}
-use native.Mathlib.Omega.{arith}
-use lib.ListN.{length, drop}
-use Rattle.queue.specs.Lent.{all_zero}
+use mathlib.Core.Path.{refl, sym, ◌∙◌}
 use Rattle.queue.proofs.Loops.{zero_on, zero_none, zero_done}
 use Rattle.queue.proofs.all_zero.Goals as goal
 

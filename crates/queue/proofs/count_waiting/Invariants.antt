@@ -1,11 +1,7 @@
 -- `queue::count_waiting` meets its contract: each turn takes one Open off the definition.
 use Prim.Native.Nat.{◌-◌}
-use mathlib.Core.Path.{◌≡◌, sym, ap, ◌∙◌}
-use native.Mathlib.Omega.{arith}
-use lib.ListN.{drop}
-use Rattle.event.specs.Table.{open_known}
-use Rattle.queue.specs.Lent.{most_waiting, open_from}
-use Rattle.queue.proofs.Loops.{Counting, counting_start, counting_on, counting_none, counting_done}
+use Rattle.queue.specs.Lent.{most_waiting}
+use Rattle.queue.proofs.Loops.{Counting}
 use Rattle.queue.proofs.count_waiting.Given as goal
 
 abbrev pub invariant-loop-waiting : goal.invariant-loop-waiting

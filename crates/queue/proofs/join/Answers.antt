@@ -1,21 +1,17 @@
 -- `queue::join` meets its contract: its test is the definition's, and where it holds the six numbers have room.
 use native.Mathlib.Omega.{arith}
-use borrow.Author.Rules.{rules}
 use lib.ListN.{length}
 use Rattle.queue.specs.Lent.{joined}
-use Rattle.queue.proofs.Places.{Room, room}
+use Rattle.queue.proofs.Places.{room}
 use Rattle.queue.proofs.join.Goals as goal
-
-has_room : (c : tie.Then1) → Room c.before.before.args.waiting (length c.before.before.args.queue.now)
-has_room c = room _ _ c.if1.true
 
 pub overflow_mul-waiting : goal.overflow_mul-waiting
 unfolding joined
-overflow_mul-waiting c = omega (arith, has_room c)
+overflow_mul-waiting c = omega (arith, room c.args.waiting (length c.args.queue.now) c.if-waiting-queue.true)
 
 pub put_open-requires : goal.put_open-requires
 unfolding joined
-put_open-requires = λ c κs. omega (arith, has_room c)
+put_open-requires c = omega (arith, room c.args.waiting (length c.args.queue.now) c.if-waiting-queue.true)
 
 pub returns-then-waiting-queue : goal.returns-then-waiting-queue
 unfolding joined

@@ -1,7 +1,6 @@
 -- `queue::move_up` meets its contract: each turn moves one number, which stands where it stood.
 use Prim.Native.Nat.{◌-◌}
-use native.Mathlib.Omega.{arith}
-use Rattle.queue.proofs.Loops.{Moving, moving_start, moving_on, moving_done}
+use Rattle.queue.proofs.Loops.{Moving}
 use Rattle.queue.proofs.move_up.Given as goal
 
 abbrev pub invariant-loop-i : goal.invariant-loop-i

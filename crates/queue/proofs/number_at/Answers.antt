@@ -1,6 +1,5 @@
 -- `queue::number_at` meets its contract: past the end a read gives zero.
 use mathlib.Core.Path.{sym}
-use borrow.Author.Rules.{rules}
 use lib.ListN.{get_or-eq_default}
 use Rattle.queue.proofs.number_at.Goals as goal
 

@@ -1,5 +1,4 @@
 -- `queue::open_at` meets its contract: the number that a field reads is the definition's, counted from the queue's start.
-use borrow.Author.Rules.{rules}
 use Rattle.queue.proofs.Places.{open_drop}
 use Rattle.queue.proofs.open_at.Goals as goal
 
