@@ -5,8 +5,6 @@ pub mod Valid
 pub mod Agrees
 pub mod Surveyed
 pub mod InPlace
-pub mod Kit
 pub mod Put
 pub mod Determined
 pub mod Tells
-pub mod Arrays
