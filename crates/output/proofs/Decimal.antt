@@ -1,64 +1,69 @@
--- The digits that `io::decimal` writes are the definition's: both take the last digit off, and end at one digit. So each
--- takes a power of ten, and a number of 64 bits has few.
-use Prim.Native.Nat.{ℕ, zero, suc, ◌*◌, ◌/◌, ◌%◌, ◌^◌, ◌≤◌, ◌<◌}
+-- The definition takes one digit after the other off the end of a number, as the code does, and stops at one that is left;
+-- it may take off more digits than the number has, and it is all the same how many more.
+use Prim.Native.Nat.{ℕ, zero, suc, ◌+◌, ◌-◌, ◌*◌, ◌/◌, ◌%◌, ◌^◌, ◌≤◌, ◌<◌}
 use mathlib.Core.List.{List, [], ◌∷◌, ◌++◌}
-use mathlib.Core.Path.{◌≡◌, refl, sym, ap, ap₂, ◌∙◌}
-use native.Mathlib.Nat.{pow-succ', one-le-pow}
-use native.Mathlib.Numerals.{unary_clauses}
+use mathlib.Core.Path.{◌≡◌, refl, sym, ap, subst, ◌∙◌}
+use native.Mathlib.Nat.{le_refl, pow-succ'}
 use native.Mathlib.Omega.{arith}
 use borrow.Author.Tests.{lt-ltb, le-ltb}
 use lib.Dec.{ltb}
-use lib.ListN.{length, length-append}
+use lib.ListN.{length, drop, set, length-append, drop_of_length-le}
+use Rattle.std.proofs.lemmas.List.{drop-set}
+use mathlib.Core.List.{append_assoc, append-nil}
 use Rattle.table.proofs.Laws.{by_order, by_pick}
-use Rattle.io.specs.Digits.{hex_digit_ascii, last_digits, IsDigitCount}
 use Rattle.output.specs.Decimal.{digit, digits_of, decimal}
 use Rattle.output.specs.Writing.{more, line}
-
-glyph_digit : (d : ℕ) → d < 10 → hex_digit_ascii d ≡ digit d
-glyph_digit d h = rw (lt-ltb d 10 h)
-
--- n has one digit more than k and none in front that is zero
-pub record Takes (k n : ℕ) : Type 0 where
-  pub under : n < 10 ^ suc k
-  pub full : 0 < k → 10 ^ k ≤ n
 
 one_digit : (more n : ℕ) → n < 10 → digits_of more n ≡ digit n ∷ []
 unfolding digits_of
 one_digit zero n h = refl
 one_digit (suc more) n h = rw (lt-ltb n 10 h)
 
--- with its last digit taken off
-one_less : (k n : ℕ) → Takes (suc k) n → Takes k (n / 10)
-one_less k n t =
-    record {
-      under = omega (arith, t.under, pow-succ' 10 (suc k));
-      full = λ h. omega (arith, t.full (omega arith), pow-succ' 10 k);
-    }
-
-two_digits : (k more n : ℕ) → Takes (suc k) n → last_digits 10 (suc k) (n / 10) ≡ digits_of more (n / 10) → last_digits 10 (suc (suc k)) n ≡ digits_of (suc more) n
+same_digits : (j k n : ℕ) → n ≤ j → n ≤ k → digits_of j n ≡ digits_of k n
 unfolding digits_of
-two_digits k more n t e =
-    let large : 10 ≤ n = omega (arith, t.full (omega arith), pow-succ' 10 k, one-le-pow k 10 (omega arith)) in
-    rw (le-ltb n 10 large) (ap₂ (λ (ds : List ℕ) (d : ℕ). ds ++ (d ∷ [])) e (glyph_digit (n % 10) (omega arith)))
+same_digits zero k n h l = sym (one_digit k n (omega arith))
+same_digits (suc j) zero n h l = one_digit (suc j) n (omega arith)
+same_digits (suc j) (suc k) n h l =
+    by_order n 10
+    (λ small. one_digit (suc j) n small ∙ sym (one_digit (suc k) n small))
+    (λ large. rw (le-ltb n 10 large) (ap (λ (ds : List ℕ). ds ++ (digit (n % 10) ∷ [])) (same_digits j k (n / 10) (omega arith) (omega arith))))
 
-same_digits : (k more n : ℕ) → k ≤ more → Takes k n → last_digits 10 (suc k) n ≡ digits_of more n
-same_digits zero more n h t =
-    let small : n < 10 = t.under in
-    ap (λ (d : ℕ). d ∷ []) (glyph_digit (n % 10) (omega arith) ∙ omega arith) ∙ sym (one_digit more n small)
-same_digits (suc k) zero n h t = absurd (omega arith)
-same_digits (suc k) (suc more) n h t = two_digits k more n t (same_digits k more (n / 10) (omega arith) (one_less k n t))
-
--- a number is below the power of ten of that many digits
-below_power : (k : ℕ) → k < 10 ^ k
-below_power zero = omega arith
-below_power (suc k) = omega (arith, below_power k, pow-succ' 10 k)
-
-pub same_decimal : (n k : ℕ) → IsDigitCount 10 1 n k → last_digits 10 k n ≡ decimal n
+decimal_small : (n : ℕ) → n < 10 → decimal n ≡ digit n ∷ []
 unfolding decimal
-same_decimal n zero f = absurd (omega arith)
-same_decimal n (suc k) f =
-    let t : Takes k n = record { under = f.1; full = λ h. simp unary_clauses at (f.2 (omega arith)) } in
-    same_digits k n n (by_order 0 k (λ h. omega (arith, below_power k, t.full h)) (λ h. omega arith)) t
+decimal_small n h = one_digit n n h
+
+-- the last digit of a number with more comes behind the others
+decimal_large : (n : ℕ) → 10 ≤ n → decimal n ≡ decimal (n / 10) ++ (digit (n % 10) ∷ [])
+unfolding decimal digits_of
+decimal_large zero h = absurd (omega arith)
+decimal_large (suc k) h =
+    rw (le-ltb (suc k) 10 h)
+    (ap (λ (ds : List ℕ). ds ++ (digit (suc k % 10) ∷ [])) (same_digits k (suc k / 10) (suc k / 10) (omega arith) (le_refl (suc k / 10))))
+
+-- ---- the digits from a place of an array on, before which those of `rest` are to come
+
+pub record Behind (value : ℕ) (digits : List ℕ) (at rest : ℕ) : Type 0 where
+  pub whole : decimal value ≡ decimal rest ++ drop (at + 1) digits
+  pub room : rest < 10 ^ suc at
+
+pub behind_none : (value at : ℕ) (digits : List ℕ) → length digits ≤ at + 1 → value < 10 ^ suc at → Behind value digits at value
+behind_none value at digits h room = record { whole = rw (drop_of_length-le digits h) (sym (append-nil (decimal value))); room = room }
+
+module _ {value at rest : ℕ} {digits : List ℕ} (b : Behind value digits at rest) (within : at < length digits) where
+  pub behind_room : 10 ≤ rest → 0 < at
+  behind_room large = by_order 0 at (λ h. h) (λ h. let none : at ≡ 0 = omega arith in absurd (omega (arith, subst (λ (k : ℕ). rest < 10 ^ suc k) none b.room)))
+
+  pub behind_on : 10 ≤ rest → Behind value (set digits at (digit (rest % 10))) (at - 1) (rest / 10)
+  behind_on large =
+      let some : 0 < at = behind_room large in
+      let back : at - 1 + 1 ≡ at = omega arith in
+      record {
+        whole = rw back (rw (drop-set digits at (digit (rest % 10)) within) (b.whole ∙ rw (decimal_large rest large) (append_assoc (decimal (rest / 10)) (digit (rest % 10) ∷ []) (drop (at + 1) digits))));
+        room = let front : suc (at - 1) ≡ at = omega arith in rw front (omega (arith, b.room, pow-succ' 10 at));
+      }
+
+  pub behind_done : rest < 10 → drop at (set digits at (digit rest)) ≡ decimal value
+  behind_done small = rw (drop-set digits at (digit rest) within, b.whole, decimal_small rest small) refl
 
 -- ---- how many they are
 

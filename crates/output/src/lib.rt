@@ -2,17 +2,22 @@
 // n and gives the place where the next one writes; what has no room is left out.
 #![tactic(auto)]
 
-ghost use Rattle.std.specs.Prelude.{min, [], ◌∷◌, ◌≡◌, length};
+ghost use Rattle.std.specs.Prelude.{min, [], ◌∷◌, ◌≡◌, ◌≤◌, drop, length, MatchResult};
 ghost use Rattle.table.specs.Choice.{pick};
 ghost use Rattle.output.specs.Decimal.{decimal};
 ghost use Rattle.output.specs.Writing.{further, lost};
 ghost use Rattle.output.specs.Promises.{Puts, PutsAll, PutsMore, PutsNumbers, WritesOut, EndsLine, PutsNumbersLine};
+
+use std::io::{Error, ErrorKind, Write};
 
 // The output is written once this much is gathered, so that a line always has room.
 pub const GATHERED: usize = 32768;
 
 // The place after a write that failed. No buffer has it, so nothing that comes later has room.
 pub const LOST: usize = 18446744073709551615;
+
+// No number of 64 bits has more digits.
+const DIGITS: usize = 20;
 
 fn put(out: &mut [u8], n: usize, b: u8) -> usize
     ensures { Puts (b ∷ []) out.old n result out.new }
@@ -37,13 +42,29 @@ pub fn put_all(out: &mut [u8], n: usize, bytes: &[u8]) -> usize
     end
 }
 
+// The digits of a number at the end of an array, which has room for any, and where they begin.
+fn digits_from(value: u64, digits: &mut [u8; DIGITS]) -> usize
+    ensures within { result ≤ length digits.new }
+    ensures digits { drop result digits.new ≡ decimal value }
+{
+    let mut at = DIGITS - 1;
+    let mut rest = value;
+    while 10 <= rest {
+        digits[at] = b'0' + (rest % 10) as u8;
+        at -= 1;
+        rest /= 10;
+    }
+    digits[at] = b'0' + rest as u8;
+    at
+}
+
 // The digits of a number.
 fn put_number(out: &mut [u8], n: usize, value: u64) -> usize
     ensures { Puts (decimal value) out.old n result out.new }
 {
-    let mut digits = [0u8; 20];
-    let count = io::decimal(value, &mut digits);
-    put_all(out, n, &digits[..count])
+    let mut digits = [0u8; DIGITS];
+    let from = digits_from(value, &mut digits);
+    put_all(out, n, &digits[from..])
 }
 
 // A further number of a line.
@@ -96,44 +117,75 @@ fn held(out: &[u8], n: usize) -> usize
     if n < room { n } else { room }
 }
 
-// The place after a write. A program has no exit status, so what is lost is told on standard error;
-// whoever closed a pipe needs no telling.
-fn after_write(whole: bool) -> usize
-    ensures { result ≡ pick whole 0 lost }
+// An error's words are no longer than this.
+const MOST_REASON: usize = 128;
+
+// The words of an error's text, without the system's number behind them.
+fn words_of(text: &[u8]) -> &str {
+    let Ok(all) = std::str::from_utf8(text) else {
+        return "";
+    };
+    match all.split_once(" (os error ") {
+        Some((words, _)) => words,
+        None => all,
+    }
+}
+
+// Says on standard error what failed, and why.
+pub fn fail(rt: &impl Eprint, what: &str, error: &Error) {
+    let mut text = [0u8; MOST_REASON];
+    let mut room = &mut text[..];
+    let _ = write!(room, "{error}");
+    let length = MOST_REASON.saturating_sub(room.len());
+    let why = words_of(&text[..length]);
+    let _ = eprintln!(rt; "{what}: {why}");
+}
+
+// The place after a write. What is lost is told on standard error; whoever closed a pipe needs no telling.
+fn after_write(rt: &impl Eprint, written: std::io::Result<()>) -> usize
+    ensures { MatchResult written (λ _. result ≡ 0) (λ _. result ≡ lost) }
 {
-    if whole {
-        return 0;
+    match written {
+        Ok(()) => 0,
+        Err(error) => {
+            if error.kind() != ErrorKind::BrokenPipe {
+                fail(rt, "not all was written to standard output", &error);
+            }
+            LOST
+        }
     }
-    if os::errno() != libc::EPIPE {
-        os::fail(b"not all was written to standard output");
-    }
-    LOST
 }
 
 // What is gathered goes out once it is `least` or more; it gives how much is gathered then, or
 // that it was lost. No contract can say what a call writes, so no branch skips the write.
-pub fn write_out(out: &[u8], n: usize, least: usize) -> usize
+pub fn write_out(rt: &(impl Print + Eprint), out: &[u8], n: usize, least: usize) -> usize
     ensures { WritesOut n least result }
 {
     if (n < least) | (n == LOST) {
         return n;
     }
     let count = held(out, n);
-    after_write(io::write_all(libc::STDOUT_FILENO, &out[..count]))
+    after_write(rt, rt.write_all(&out[..count]))
 }
 
 // The end of a line, after which a full buffer is written.
-pub fn end_line(out: &mut [u8], n: usize) -> usize
+pub fn end_line(rt: &(impl Print + Eprint), out: &mut [u8], n: usize) -> usize
     ensures { EndsLine out.old n result out.new }
 {
     let after = put(out, n, b'\n');
-    write_out(out, after, GATHERED)
+    write_out(rt, out, after, GATHERED)
 }
 
 // A whole line.
-pub fn put_line(out: &mut [u8], n: usize, first: u64, others: &[u64]) -> usize
+pub fn put_line(
+    rt: &(impl Print + Eprint),
+    out: &mut [u8],
+    n: usize,
+    first: u64,
+    others: &[u64],
+) -> usize
     ensures { PutsNumbersLine first others.now out.old n result out.new }
 {
     let end = put_numbers(out, n, first, others);
-    end_line(out, end)
+    end_line(rt, out, end)
 }
