@@ -8,7 +8,6 @@ use borrow.Author.Tests.{le-leb, lt-leb, leb-true, leb-false}
 use lib.Dec.{leb}
 use lib.ListN.{length, length-append}
 use lib.Seq.{sets, set_out}
-use Rattle.io.proofs.Counting.{prefix_len_of_le}
 use Rattle.table.specs.Choice.{pick}
 use Rattle.output.specs.Writing.{reached}
 use Rattle.output.specs.Promises.{Puts}
@@ -133,6 +132,6 @@ module _ {s before buffer : List ℕ} {place left next end : ℕ} {whole : Bool}
         puts = m.rest.rest end buffer (rw none (puts_none buffer end));
         whole = flag_done whole (length before) (length (all_pieces s place)) end (rw none at m.flag) m.high;
         there = rw none at m.there;
-        counts = prefix_len_of_le end buffer (omega (arith, m.high, m.rest.long));
+        counts = omega (arith, m.high, m.rest.long);
         within = m.inside;
       }

@@ -3,7 +3,6 @@ use Rattle.std.specs.Prelude.{ℕ, ◌-◌, ◌≤◌, max, List, ◌≡◌, eqb
 use Rattle.std.proofs.Math.Seq.{slice}
 use Rattle.table.specs.Choice.{pick}
 use Rattle.table.specs.Results.{Leaves}
-use Rattle.io.specs.Counts.{IsPrefixLen}
 use Rattle.output.specs.Promises.{Puts, PutsNumbersLine}
 use Rattle.casefile.specs.Reading.{taken, part_at, numbers_at, place_after}
 use Rattle.casefile.specs.Records.{phy_numbers, phy_of, event_from}
@@ -58,7 +57,7 @@ pub record PutsPieces (s : List ℕ) (place : ℕ) (before : List ℕ) (r : Made
   pub puts : Puts (all_pieces s place) before 0 r.length after
   pub whole : r.whole ≡ leb (length (all_pieces s place)) (length before)
   pub there : r.next ≡ place_behind (taken s place).value s (taken s place).next
-  pub counts : IsPrefixLen r.length after
+  pub counts : r.length ≤ length after
   pub within : r.next ≤ length s
 
 -- `put_repeats` of bytes

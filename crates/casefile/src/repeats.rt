@@ -16,7 +16,13 @@ fn ends_at(bytes: &[u8], i: usize, b: u8) -> bool
 }
 
 // A line of the pairs, none for an empty buffer.
-pub fn put_repeats(out: &mut [u8], n: usize, kind: u64, bytes: &[u8]) -> usize
+pub fn put_repeats(
+    rt: &(impl Print + Eprint),
+    out: &mut [u8],
+    n: usize,
+    kind: u64,
+    bytes: &[u8],
+) -> usize
     ensures { PutsRepeats kind bytes.now out.old n result out.new }
 {
     let none: [u64; 0] = [];
@@ -33,5 +39,5 @@ pub fn put_repeats(out: &mut [u8], n: usize, kind: u64, bytes: &[u8]) -> usize
             count = 0;
         }
     }
-    end_line(out, end)
+    end_line(rt, out, end)
 }

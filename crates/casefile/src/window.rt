@@ -5,7 +5,8 @@ ghost use Rattle.table.specs.Choice.{pick};
 ghost use Rattle.casefile.specs.Promises.{MovesToFront, Slides, GoesOn};
 
 use crate::{Ahead, Place, Turn};
-use output::LOST;
+use output::{LOST, read_full};
+use std::io::Read;
 
 // A case takes no more than this of the case file.
 const MOST_CASE: usize = 32768;
@@ -31,7 +32,7 @@ fn to_front(window: &mut [u8], from: usize, to: usize) -> usize
 
 // The window with a whole case ahead, as long as the file has one. Only what lies in the window counts
 // as ahead.
-fn slide(window: &mut [u8], ahead: Ahead) -> Ahead
+fn slide(input: &mut impl Read, window: &mut [u8], ahead: Ahead) -> Ahead
     ensures { Slides window.old ahead result window.new }
 {
     let from = ahead.from;
@@ -51,7 +52,7 @@ fn slide(window: &mut [u8], ahead: Ahead) -> Ahead
         };
     }
     let kept = to_front(window, from, to);
-    let more = io::read_full(0, &mut window[kept..]);
+    let more = read_full(input, &mut window[kept..]);
     Ahead {
         from: 0,
         to: kept + more,
@@ -72,7 +73,7 @@ fn left_after(left: u64, over: bool) -> u64
 
 // The turn after one that took a case up to a place. The run is over where nothing is ahead or a write
 // failed.
-pub fn next_case(window: &mut [u8], turn: Turn, at: Place) -> Turn
+pub fn next_case(input: &mut impl Read, window: &mut [u8], turn: Turn, at: Place) -> Turn
     ensures { GoesOn window.old turn at result window.new }
 {
     let failed = at.n == LOST;
@@ -81,7 +82,7 @@ pub fn next_case(window: &mut [u8], turn: Turn, at: Place) -> Turn
         to: turn.to,
         ended: turn.ended | failed,
     };
-    let ahead = slide(window, behind);
+    let ahead = slide(input, window, behind);
     let over = failed | (ahead.to <= ahead.from);
     Turn {
         left: left_after(turn.left, over),

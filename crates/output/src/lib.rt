@@ -8,7 +8,10 @@ ghost use Rattle.output.specs.Decimal.{decimal};
 ghost use Rattle.output.specs.Writing.{further, lost};
 ghost use Rattle.output.specs.Promises.{Puts, PutsAll, PutsMore, PutsNumbers, WritesOut, EndsLine, PutsNumbersLine};
 
-use std::io::{Error, ErrorKind, Write};
+mod system;
+
+use std::io::ErrorKind;
+pub use system::{fail, read_full};
 
 // The output is written once this much is gathered, so that a line always has room.
 pub const GATHERED: usize = 32768;
@@ -115,30 +118,6 @@ fn held(out: &[u8], n: usize) -> usize
 {
     let room = out.len();
     if n < room { n } else { room }
-}
-
-// An error's words are no longer than this.
-const MOST_REASON: usize = 128;
-
-// The words of an error's text, without the system's number behind them.
-fn words_of(text: &[u8]) -> &str {
-    let Ok(all) = std::str::from_utf8(text) else {
-        return "";
-    };
-    match all.split_once(" (os error ") {
-        Some((words, _)) => words,
-        None => all,
-    }
-}
-
-// Says on standard error what failed, and why.
-pub fn fail(rt: &impl Eprint, what: &str, error: &Error) {
-    let mut text = [0u8; MOST_REASON];
-    let mut room = &mut text[..];
-    let _ = write!(room, "{error}");
-    let length = MOST_REASON.saturating_sub(room.len());
-    let why = words_of(&text[..length]);
-    let _ = eprintln!(rt; "{what}: {why}");
 }
 
 // The place after a write. What is lost is told on standard error; whoever closed a pipe needs no telling.
