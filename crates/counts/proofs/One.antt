@@ -103,9 +103,9 @@ raises_one_alone t bay answer s =
 -- as many rows of zeros as there may be
 zeros_long : (n : ℕ) → AllLong (replicate n (replicate column_count 0))
 zeros_long zero = tt
-zeros_long (suc n) = (length-replicate column_count 0, zeros_long n)
+zeros_long (suc n) = (length-replicate {A = ℕ} column_count 0, zeros_long n)
 
-zero_at : (n column : ℕ) → get_or (replicate n 0) column 0 ≡ 0
+zero_at : (n column : ℕ) → get_or {A = ℕ} (replicate n 0) column 0 ≡ 0
 zero_at zero column = refl
 zero_at (suc n) zero = refl
 zero_at (suc n) (suc column) = zero_at n column
@@ -121,7 +121,7 @@ none_at = zeros_at row_count
 pub none_sound : NoneSound
 none_sound =
     record {
-      rows = length-replicate row_count (replicate column_count 0);
+      rows = length-replicate row_count (replicate {A = ℕ} column_count 0);
       columns = zeros_long row_count;
       low = λ bay column. omega (arith, none_at bay column);
     }

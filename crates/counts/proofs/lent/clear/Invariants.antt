@@ -1,0 +1,16 @@
+-- `counts::lent::clear` meets its contract: after each turn one number more in front is zero.
+use Prim.Native.Nat.{◌-◌, ◌≤◌}
+use mathlib.Core.Path.{◌≡◌, refl, sym, ap, ◌∙◌}
+use native.Mathlib.Omega.{arith}
+use borrow.Author.Rules.{rules}
+use borrow.Author.Tests.{eq-eqb, ne_eqb}
+use lib.ListN.{length, take, replicate, length-set}
+use Rattle.counts.specs.Lent.{lent_length}
+use Rattle.counts.proofs.Clearing.{front_on, front_whole}
+use Rattle.counts.proofs.lent.clear.Given as goal
+
+abbrev pub invariant-loop-i : goal.invariant-loop-i
+invariant-loop-i l = (length l.counts ≡ lent_length) × (l.i ≤ lent_length) × (take l.i l.counts ≡ replicate l.i 0)
+
+abbrev pub decreases-loop-i : goal.decreases-loop-i
+decreases-loop-i l = lent_length - l.i
