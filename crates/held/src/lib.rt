@@ -12,7 +12,7 @@ use port::Stepped;
 // One more than a port may have, so that a port of too many can be held too.
 pub const MOST_HELD: usize = port::MOST_PHYS + 1;
 
-#[derive(Drop)]
+#[derive(Clone, Copy)]
 pub struct Row {
     pub bays: [Bay; MOST_HELD],
 }
@@ -40,14 +40,17 @@ fn shown(count: usize) -> usize
     if count < MOST_HELD { count } else { MOST_HELD }
 }
 
-// It lends a part of the row and so is walked by hand; its caller settles the count.
+// It lends a part of the row; its caller settles the count.
 fn step_front(row: Row, count: usize, queue: &mut [u64], number: u64, event: Event) -> RowStepped
     requires { count ≤ most_held }
     ensures { StepsRow row.bays count queue.old number event result queue.new }
 {
-    let mut lent = row;
-    let stepped = port::step(&mut lent.bays[..count], queue, number, event);
-    RowStepped { row: lent, stepped }
+    let mut bays = row.bays;
+    let stepped = port::step(&mut bays[..count], queue, number, event);
+    RowStepped {
+        row: Row { bays },
+        stepped,
+    }
 }
 
 // A step of the port that the first `count` bays of a row make.

@@ -3,14 +3,12 @@ use Prim.Native.Nat.{ℕ}
 use mathlib.Core.List.{List}
 use mathlib.Core.Path.{◌≡◌}
 use native.Mathlib.Omega.{arith}
-use borrow.Author.Rules.{rules}
 use Rattle.event.specs.declared.Event.{Event}
 use Rattle.bay.specs.declared.Bay.{Bay}
 use Rattle.held.specs.Rows.{shown}
 use Rattle.held.specs.Promises.{StepsRow}
 use Rattle.held.specs.declared.RowStepped.{RowStepped}
-use Rattle.held.proofs.step_row.Statement.{statement}
-use Rattle.held.proofs.step_row.Tie as tie
+use Rattle.held.proofs.step_row.Goals as goal
 
 -- so what is said of the one count is said of the other
 as_shown : {bays : List Bay} {n count : ℕ} {before : List ℕ} {number : ℕ} {e : Event} {r : RowStepped} {after : List ℕ}
@@ -19,9 +17,5 @@ as_shown {n = n} {count = count} h x =
     let same : shown count ≡ shown n = omega (arith, h) in
     record { steps = rw same x.steps; others = rw same x.others }
 
-pub step_row_spec : {M : Type 1} → statement M
-step_row_spec =
-    tie.close
-    (tie.spec
-    (λ _ _. tt) (λ c. search rules) (λ c. search rules)
-    (λ c. let stepped = c.before.before in as_shown stepped.before.before.shown.ensures stepped.step-front.ensures))
+pub returns : goal.returns
+returns c = as_shown c.shown.ensures c.step_front.ensures
