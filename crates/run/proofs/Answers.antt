@@ -92,12 +92,12 @@ not_two b e k z =
     (λ n q. false≢true (sym ((bad_event_exactly b e).0 (sym q ∙ z)).1 ∙ k))
     (λ q. none_or_answer b e (λ y. omega arith) (λ t. omega (arith, answer_least (step_of b e).answer.code t)))
 
-passed : (b : Bay) (s : List ℕ) (place : ℕ) (es : List Event) (last : ℕ) → valid_of b ≡ true → Passes s place es last → NeitherOneNorTwo (bytes_of b es)
-passed b s place es last v here = tt
-passed b s place es last v (on {e = e} {next} {es = later} r t) =
-    ((not_one b e v, not_two b e (read_known s place e next r)), passed (step_of b e).next s next later last (stays_valid b e v) t)
+passed : (s : List ℕ) (b : Bay) (place : ℕ) (es : List Event) (last : ℕ) → valid_of b ≡ true → Passes s place es last → NeitherOneNorTwo (bytes_of b es)
+passed s b place es last v here = tt
+passed s b place es last v (on {e = e} {next} {es = later} r t) =
+    ((not_one b e v, not_two b e (read_known s place e next r)), passed s (step_of b e).next next later last (stays_valid b e v) t)
 
 pub no_one_nor_two : NoOneNorTwo
 no_one_nor_two p s budget v =
     let w = stops_well_always s budget in
-    passed (unstamped p) s 0 (taking budget s 0).events w.last (as_valid p refl v) w.passes
+    passed s (unstamped p) 0 (taking budget s 0).events w.last (as_valid p refl v) w.passes
