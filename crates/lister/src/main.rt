@@ -10,12 +10,19 @@ ghost use Rattle.shelf_listing.specs.Held.{fresh_shelf, of_shelf};
 ghost use Rattle.lister.specs.Says.{meant_by, Measures, ending_of, ListsTo};
 
 use lines::LineWritten;
-use output::{LOST, write_out};
+use output::{LOST, fail, read_full, write_out};
 use port::MOST_PHYS;
+use std::env::FillError;
+use std::fmt::Display;
+use std::fs::OpenOptions;
+use std::io::{Read, Write};
+use std::rt::{Env, Files};
 
-// A program has no exit status: the outcome is told on this descriptor. Whoever opens it says so by the
-// first argument. The second is the number of phys of a shelf, whose trace is listed then.
-const OUTCOME: i32 = 3;
+// The outcome is told on descriptor 3, which the system opens anew under this name. Whoever opens it says so
+// by the first argument. The second is the number of phys of a shelf, whose trace is listed then.
+const OUTCOME: &str = "/dev/fd/3";
+
+const TOLD: usize = 1;
 
 const PHYS: usize = 2;
 
@@ -25,6 +32,12 @@ const LAST_DIGIT: usize = 57;
 
 // An argument that is longer is no number of phys.
 const MOST_ARGUMENT: usize = 20;
+
+// The buffer in which lines are gathered.
+const ROOM: usize = 65536;
+
+// What is said of an input that cannot be read.
+const UNREAD: &str = "the trace cannot be read";
 
 // What became of the trace: listed to its end, damaged or too long, not all of it written, or not read.
 #[derive(Clone, Copy)]
@@ -44,21 +57,24 @@ enum Input {
 
 // How long the input is of which this many bytes were kept. The read that kept them cannot tell the
 // input's end from a failure, so one byte more is asked for; it also tells that the input is too long.
-fn total(kept: usize) -> Input
+fn total(rt: &impl Eprint, input: &mut impl Read, kept: usize) -> Input
     ensures { Measures kept result }
 {
     let mut more = [0u8; 1];
-    let got = libc::read(libc::STDIN_FILENO, &mut more);
-    if got == 0 {
-        return Input::Length(kept);
-    }
-    if kept == lines::MOST_TRACE {
-        if got > 0 {
-            return Input::Length(lines::MOST_TRACE + 1);
+    match input.read(&mut more) {
+        Ok(0) => Input::Length(kept),
+        Ok(_) => {
+            if kept == lines::MOST_TRACE {
+                return Input::Length(lines::MOST_TRACE + 1);
+            }
+            let _ = rt.eprintln(UNREAD);
+            Input::Unread
+        }
+        Err(error) => {
+            fail(rt, UNREAD, &error);
+            Input::Unread
         }
     }
-    os::fail(b"the trace cannot be read");
-    Input::Unread
 }
 
 // The outcome after the last line, where n tells whether all was written.
@@ -76,7 +92,7 @@ fn ending(whole: bool, n: usize) -> Outcome
 
 // Lists a trace; `total` says how long the input was, which may be longer. The lines are gathered in
 // `out`, which is written when it has no room for the next one. Where a write fails the listing stops.
-fn list(trace: &[u8], total: usize, out: &mut [u8]) -> Outcome
+fn list(rt: &(impl Print + Eprint), trace: &[u8], total: usize, out: &mut [u8]) -> Outcome
     requires { 65536 ≡ length out.old }
     ensures { ListsTo of_phy fresh_bay trace.now total result }
 {
@@ -93,18 +109,24 @@ fn list(trace: &[u8], total: usize, out: &mut [u8]) -> Outcome
                 n += length;
             }
             LineWritten::NoRoom => {
-                n = write_out(out, n, 0);
+                n = write_out(rt, out, n, 0);
                 if n == LOST {
                     return Outcome::Unwritten;
                 }
             }
-            LineWritten::Done { whole } => return ending(whole, write_out(out, n, 0)),
+            LineWritten::Done { whole } => return ending(whole, write_out(rt, out, n, 0)),
         }
     }
 }
 
 // The same of a shelf of fresh phys.
-fn list_shelf(trace: &[u8], total: usize, phys: usize, out: &mut [u8]) -> Outcome
+fn list_shelf(
+    rt: &(impl Print + Eprint),
+    trace: &[u8],
+    total: usize,
+    phys: usize,
+    out: &mut [u8],
+) -> Outcome
     requires { 65536 ≡ length out.old }
     ensures { ListsTo of_shelf (fresh_shelf phys) trace.now total result }
 {
@@ -121,12 +143,12 @@ fn list_shelf(trace: &[u8], total: usize, phys: usize, out: &mut [u8]) -> Outcom
                 n += length;
             }
             LineWritten::NoRoom => {
-                n = write_out(out, n, 0);
+                n = write_out(rt, out, n, 0);
                 if n == LOST {
                     return Outcome::Unwritten;
                 }
             }
-            LineWritten::Done { whole } => return ending(whole, write_out(out, n, 0)),
+            LineWritten::Done { whole } => return ending(whole, write_out(rt, out, n, 0)),
         }
     }
 }
@@ -153,55 +175,75 @@ fn meant_by(text: &[u8]) -> usize
 }
 
 // Lists the input; as a shelf's trace, where `phys` is not 0.
-fn list_input(phys: usize) -> Outcome {
-    let mut trace = io::large_buffer();
-    let mut out = io::large_buffer();
-    let kept = io::read_full(libc::STDIN_FILENO, &mut trace);
-    match total(kept) {
+fn list_input(rt: &(impl Print + Eprint), input: &mut impl Read, phys: usize) -> Outcome {
+    let mut trace = [0u8; lines::MOST_TRACE];
+    let mut out = [0u8; ROOM];
+    let kept = read_full(input, &mut trace);
+    match total(rt, input, kept) {
         Input::Length(total) => {
             if phys == 0 {
-                return list(&trace[..kept], total, &mut out);
+                return list(rt, &trace[..kept], total, &mut out);
             }
-            list_shelf(&trace[..kept], total, phys, &mut out)
+            list_shelf(rt, &trace[..kept], total, phys, &mut out)
         }
         Input::Unread => Outcome::Unread,
     }
 }
 
-// The outcome as a word, where an argument asks for it.
-fn tell(word: &[u8]) {
-    if os::arg_count() > 1 {
-        io::write_all(OUTCOME, word);
+// Whether the program was given an argument.
+fn is_given(rt: &impl Env, number: usize) -> bool {
+    let mut text = [0u8; MOST_ARGUMENT];
+    match rt.arg(number, &mut text) {
+        Ok(_) => true,
+        Err(FillError::TooLong) => true,
+        Err(FillError::NotPresent) => false,
     }
 }
 
-fn tell_outcome(outcome: Outcome) {
+// The number of phys that the argument means; 0 where it means none that a port may have.
+fn phys_given(rt: &impl Env) -> usize {
+    let mut text = [0u8; MOST_ARGUMENT];
+    match rt.arg(PHYS, &mut text) {
+        Ok(length) => meant_by(&text[..length]),
+        Err(_) => 0,
+    }
+}
+
+// The outcome as a line, where an argument asks for it. Where it cannot be told, nobody hears of that.
+fn tell<T: Display + Drop>(rt: &(impl Env + Files), line: T) {
+    if !is_given(rt, TOLD) {
+        return;
+    }
+    if let Ok(mut told) = OpenOptions::new().append(true).open(rt, OUTCOME) {
+        let _ = writeln!(told, "{line}");
+    }
+}
+
+fn tell_outcome(rt: &(impl Env + Files), outcome: Outcome) {
     match outcome {
-        Outcome::Whole => tell(b"whole\n"),
-        Outcome::Damaged => tell(b"damaged\n"),
-        Outcome::Unwritten => tell(b"unwritten\n"),
-        Outcome::Unread => tell(b"unread\n"),
+        Outcome::Whole => tell(rt, "whole"),
+        Outcome::Damaged => tell(rt, "damaged"),
+        Outcome::Unwritten => tell(rt, "unwritten"),
+        Outcome::Unread => tell(rt, "unread"),
     }
 }
 
 // Whoever asks for a shelf that no port has is told how many phys one may have.
-fn tell_most() {
-    tell(b"phys ");
-    io::print_decimal(OUTCOME, MOST_PHYS as u64);
-    tell(b"\n");
+fn tell_most(rt: &(impl Env + Files)) {
+    tell(rt, format_args!("phys {MOST_PHYS}"));
 }
 
-fn main() {
-    if os::arg_count() <= PHYS {
-        tell_outcome(list_input(0));
+fn main(rt: HostRuntime) {
+    if !is_given(&rt, PHYS) {
+        let outcome = list_input(&rt, &mut rt.stdin(), 0);
+        tell_outcome(&rt, outcome);
         return;
     }
-    let mut text = [0u8; MOST_ARGUMENT];
-    let length = os::arg(PHYS, &mut text);
-    let phys = meant_by(&text[..length]);
+    let phys = phys_given(&rt);
     if phys == 0 {
-        tell_most();
+        tell_most(&rt);
         return;
     }
-    tell_outcome(list_input(phys));
+    let outcome = list_input(&rt, &mut rt.stdin(), phys);
+    tell_outcome(&rt, outcome);
 }
