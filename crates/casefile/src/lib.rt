@@ -14,6 +14,9 @@ pub use records::{event_of, phy_numbers, phy_of};
 pub use repeats::put_repeats;
 pub use window::next_case;
 
+// The bytes of a program's buffers: of the window, the output and whatever a case fills.
+pub const BUFFER: usize = 65536;
+
 // The numbers of a phy.
 pub const PHY_NUMBERS: usize = 16;
 

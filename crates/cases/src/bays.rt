@@ -11,7 +11,13 @@ use output::{end_line, put_more, put_numbers};
 pub(crate) const CLOCK: usize = 2;
 
 // refusal, answer, both notices and sent, each with its tick, the answer's Open, bay
-fn put_stepped(out: &mut [u8], n: usize, kind: u64, r: Stepped) -> usize {
+fn put_stepped(
+    rt: &(impl Print + Eprint),
+    out: &mut [u8],
+    n: usize,
+    kind: u64,
+    r: Stepped,
+) -> usize {
     let answer = r.answer;
     let notice = r.notice;
     let second = r.secondNotice;
@@ -35,11 +41,17 @@ fn put_stepped(out: &mut [u8], n: usize, kind: u64, r: Stepped) -> usize {
     let second = put_more(out, first, &open);
     let third = put_more(out, second, &fields);
     let end = put_more(out, third, &clock);
-    end_line(out, end)
+    end_line(rt, out, end)
 }
 
 // event: the refusal, the reports and the bay
-pub(crate) fn one_step(s: &[u8], kind: u64, walk: Walk, out: &mut [u8]) -> Walk
+pub(crate) fn one_step(
+    rt: &(impl Print + Eprint),
+    s: &[u8],
+    kind: u64,
+    walk: Walk,
+    out: &mut [u8],
+) -> Walk
     ensures { result.next ≤ max walk.next (length s.now) }
 {
     let mut item = [0u64; EVENT_NUMBERS];
@@ -49,6 +61,6 @@ pub(crate) fn one_step(s: &[u8], kind: u64, walk: Walk, out: &mut [u8]) -> Walk
     let mut after = walk;
     after.bay = bay;
     after.next = next;
-    after.n = put_stepped(out, walk.n, kind, r);
+    after.n = put_stepped(rt, out, walk.n, kind, r);
     after
 }

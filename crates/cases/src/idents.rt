@@ -35,7 +35,13 @@ fn line(r: Stepped) -> [u64; LINE] {
 }
 
 // event, argument: the refusal, the report and the identification
-pub(crate) fn one_step(s: &[u8], kind: u64, walk: Walk, out: &mut [u8]) -> Walk
+pub(crate) fn one_step(
+    rt: &(impl Print + Eprint),
+    s: &[u8],
+    kind: u64,
+    walk: Walk,
+    out: &mut [u8],
+) -> Walk
     ensures { result.next ≤ length s.now }
 {
     let event = take(s, walk.next);
@@ -46,6 +52,6 @@ pub(crate) fn one_step(s: &[u8], kind: u64, walk: Walk, out: &mut [u8]) -> Walk
     let mut after = walk;
     after.identification = next;
     after.next = argument.next;
-    after.n = put_line(out, walk.n, kind, &said);
+    after.n = put_line(rt, out, walk.n, kind, &said);
     after
 }

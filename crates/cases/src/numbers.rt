@@ -8,7 +8,14 @@ use output::{end_line, put_all, put_bytes, put_line, put_numbers};
 const MOST_BUFFER: usize = 64;
 
 // place, bytes: refusal, value, place after it
-pub(crate) fn read_case(s: &[u8], kind: u64, place: usize, out: &mut [u8], n: usize) -> Place
+pub(crate) fn read_case(
+    rt: &(impl Print + Eprint),
+    s: &[u8],
+    kind: u64,
+    place: usize,
+    out: &mut [u8],
+    n: usize,
+) -> Place
     ensures { EndsWithin s.now result }
 {
     let at = take(s, place);
@@ -19,11 +26,12 @@ pub(crate) fn read_case(s: &[u8], kind: u64, place: usize, out: &mut [u8], n: us
     let said = [r.refusal, r.value, r.next as u64];
     Place {
         next: to,
-        n: put_line(out, n, kind, &said),
+        n: put_line(rt, out, n, kind, &said),
     }
 }
 
 fn write_line(
+    rt: &(impl Print + Eprint),
     buffer: &mut [u8],
     value: u64,
     place: usize,
@@ -35,11 +43,18 @@ fn write_line(
     let said = [r.refusal, r.length as u64];
     let head = put_numbers(out, n, kind, &said);
     let end = put_bytes(out, head, buffer);
-    end_line(out, end)
+    end_line(rt, out, end)
 }
 
 // value, place, buffer before: refusal, length, buffer after
-pub(crate) fn write_case(s: &[u8], kind: u64, place: usize, out: &mut [u8], n: usize) -> Place
+pub(crate) fn write_case(
+    rt: &(impl Print + Eprint),
+    s: &[u8],
+    kind: u64,
+    place: usize,
+    out: &mut [u8],
+    n: usize,
+) -> Place
     ensures { EndsWithin s.now result }
 {
     let value = take(s, place);
@@ -50,6 +65,7 @@ pub(crate) fn write_case(s: &[u8], kind: u64, place: usize, out: &mut [u8], n: u
     let mut room = [0u8; MOST_BUFFER];
     let count = put_all(&mut room, 0, &s[from..to]);
     let end = write_line(
+        rt,
         &mut room[0..count],
         value.value,
         at.value as usize,

@@ -22,21 +22,34 @@ pub(crate) fn open_numbers(o: Open) -> [u64; 6]
 }
 
 // refusal, answer, notice, sent, the answer's Open, phy
-fn put_stepped(out: &mut [u8], n: usize, kind: u64, r: Stepped) -> usize {
+fn put_stepped(
+    rt: &(impl Print + Eprint),
+    out: &mut [u8],
+    n: usize,
+    kind: u64,
+    r: Stepped,
+) -> usize {
     let head = [r.refusal, r.answer, r.notice, r.sent];
     let open = open_numbers(r.answered);
     let fields = phy_numbers(r.next);
     let first = put_numbers(out, n, kind, &head);
     let second = put_more(out, first, &open);
     let end = put_more(out, second, &fields);
-    end_line(out, end)
+    end_line(rt, out, end)
 }
 
 // The last step of an item has a line, and so has each that reports something.
-fn put_step(out: &mut [u8], n: usize, kind: u64, r: Stepped, last: bool) -> usize {
+fn put_step(
+    rt: &(impl Print + Eprint),
+    out: &mut [u8],
+    n: usize,
+    kind: u64,
+    r: Stepped,
+    last: bool,
+) -> usize {
     let reports = (r.refusal != 0) | (r.answer != 0) | (r.notice != 0) | (r.sent != 0);
     if last | reports {
-        return put_stepped(out, n, kind, r);
+        return put_stepped(rt, out, n, kind, r);
     }
     n
 }
@@ -48,7 +61,15 @@ struct After {
     n: usize,
 }
 
-fn repeat(out: &mut [u8], n: usize, kind: u64, phy: Phy, event: Event, times: u64) -> After {
+fn repeat(
+    rt: &(impl Print + Eprint),
+    out: &mut [u8],
+    n: usize,
+    kind: u64,
+    phy: Phy,
+    event: Event,
+    times: u64,
+) -> After {
     let mut left = times;
     let mut state = phy;
     let mut end = n;
@@ -56,7 +77,7 @@ fn repeat(out: &mut [u8], n: usize, kind: u64, phy: Phy, event: Event, times: u6
         left -= 1;
         let r = phy::step(state, event);
         state = r.next;
-        end = put_step(out, end, kind, r, left == 0);
+        end = put_step(rt, out, end, kind, r, left == 0);
     }
     After {
         next: state,
@@ -65,14 +86,20 @@ fn repeat(out: &mut [u8], n: usize, kind: u64, phy: Phy, event: Event, times: u6
 }
 
 // times, event: for each step that has a line the refusal, the reports and the phy
-pub(crate) fn one_item(s: &[u8], kind: u64, walk: Walk, out: &mut [u8]) -> Walk
+pub(crate) fn one_item(
+    rt: &(impl Print + Eprint),
+    s: &[u8],
+    kind: u64,
+    walk: Walk,
+    out: &mut [u8],
+) -> Walk
     ensures { result.next ≤ length s.now }
 {
     let times = take(s, walk.next);
     let mut item = [0u64; EVENT_NUMBERS];
     let next = take_many(s, times.next, &mut item);
     let mut bay = walk.bay;
-    let done = repeat(out, walk.n, kind, bay.phy, event_of(item), times.value);
+    let done = repeat(rt, out, walk.n, kind, bay.phy, event_of(item), times.value);
     let phy = done.next;
     bay.phy = phy;
     let mut after = walk;

@@ -6,7 +6,13 @@ use casefile::take;
 use output::put_line;
 
 // event: the refusal, the state and the report
-pub(crate) fn one_step(s: &[u8], kind: u64, walk: Walk, out: &mut [u8]) -> Walk
+pub(crate) fn one_step(
+    rt: &(impl Print + Eprint),
+    s: &[u8],
+    kind: u64,
+    walk: Walk,
+    out: &mut [u8],
+) -> Walk
     ensures { result.next ≤ length s.now }
 {
     let event = take(s, walk.next);
@@ -15,6 +21,6 @@ pub(crate) fn one_step(s: &[u8], kind: u64, walk: Walk, out: &mut [u8]) -> Walk
     let mut after = walk;
     after.sync = r.state;
     after.next = event.next;
-    after.n = put_line(out, walk.n, kind, &said);
+    after.n = put_line(rt, out, walk.n, kind, &said);
     after
 }

@@ -40,31 +40,45 @@ fn clock_numbers(kind: u64) -> usize
     0
 }
 
-fn one_item(s: &[u8], kind: u64, walk: Walk, out: &mut [u8]) -> Walk
+fn one_item(rt: &(impl Print + Eprint), s: &[u8], kind: u64, walk: Walk, out: &mut [u8]) -> Walk
     ensures { result.next ≤ max walk.next (length s.now) }
 {
     match kind {
-        DWS_WALK => syncs::one_step(s, kind, walk, out),
-        IDENTIFY_WALK => idents::one_step(s, kind, walk, out),
-        BAY_WALK => bays::one_step(s, kind, walk, out),
-        _ => phys::one_item(s, kind, walk, out),
+        DWS_WALK => syncs::one_step(rt, s, kind, walk, out),
+        IDENTIFY_WALK => idents::one_step(rt, s, kind, walk, out),
+        BAY_WALK => bays::one_step(rt, s, kind, walk, out),
+        _ => phys::one_item(rt, s, kind, walk, out),
     }
 }
 
-fn all_items(s: &[u8], kind: u64, count: u64, start: Walk, out: &mut [u8]) -> Walk
+fn all_items(
+    rt: &(impl Print + Eprint),
+    s: &[u8],
+    kind: u64,
+    count: u64,
+    start: Walk,
+    out: &mut [u8],
+) -> Walk
     ensures { result.next ≤ max start.next (length s.now) }
 {
     let mut left = count;
     let mut walk = start;
     while 0 < left {
         left -= 1;
-        walk = one_item(s, kind, walk, out);
+        walk = one_item(rt, s, kind, walk, out);
     }
     walk
 }
 
 // state, count, items
-pub(crate) fn walk_case(s: &[u8], kind: u64, place: usize, out: &mut [u8], n: usize) -> Place
+pub(crate) fn walk_case(
+    rt: &(impl Print + Eprint),
+    s: &[u8],
+    kind: u64,
+    place: usize,
+    out: &mut [u8],
+    n: usize,
+) -> Place
     ensures { EndsWithin s.now result }
 {
     let mut fields = [0u64; PHY_NUMBERS];
@@ -86,7 +100,7 @@ pub(crate) fn walk_case(s: &[u8], kind: u64, place: usize, out: &mut [u8], n: us
         next: count.next,
         n,
     };
-    let walk = all_items(s, kind, count.value, start, out);
+    let walk = all_items(rt, s, kind, count.value, start, out);
     Place {
         next: walk.next,
         n: walk.n,

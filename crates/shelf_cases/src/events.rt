@@ -75,7 +75,7 @@ fn said(place: usize, read: ShelfRead) -> Found {
 }
 
 // how, refusal, place reached, number, code, arguments
-fn put_said(out: &mut [u8], n: usize, kind: u64, said: Found) -> usize {
+fn put_said(rt: &(impl Print + Eprint), out: &mut [u8], n: usize, kind: u64, said: Found) -> usize {
     let e = said.event;
     let line = [
         said.how,
@@ -90,11 +90,18 @@ fn put_said(out: &mut [u8], n: usize, kind: u64, said: Found) -> usize {
         e.fifth,
         e.sixth,
     ];
-    put_line(out, n, kind, &line)
+    put_line(rt, out, n, kind, &line)
 }
 
 // place, bytes: what was read there
-pub(crate) fn read_case(s: &[u8], kind: u64, place: usize, out: &mut [u8], n: usize) -> Place
+pub(crate) fn read_case(
+    rt: &(impl Print + Eprint),
+    s: &[u8],
+    kind: u64,
+    place: usize,
+    out: &mut [u8],
+    n: usize,
+) -> Place
     ensures { EndsWithin s.now result }
 {
     let at = take(s, place);
@@ -105,7 +112,7 @@ pub(crate) fn read_case(s: &[u8], kind: u64, place: usize, out: &mut [u8], n: us
     let read = said(start, shelf::event_at(&s[from..to], start));
     Place {
         next: to,
-        n: put_said(out, n, kind, read),
+        n: put_said(rt, out, n, kind, read),
     }
 }
 
@@ -124,6 +131,7 @@ fn wrote(written: EventWritten) -> Stored {
 }
 
 fn write_line(
+    rt: &(impl Print + Eprint),
     buffer: &mut [u8],
     event: ShelfEvent,
     place: usize,
@@ -135,11 +143,18 @@ fn write_line(
     let said = [r.refusal, r.length as u64];
     let head = put_numbers(out, n, kind, &said);
     let end = put_bytes(out, head, buffer);
-    end_line(out, end)
+    end_line(rt, out, end)
 }
 
 // place, number, event, buffer before: refusal, length, buffer after
-pub(crate) fn write_case(s: &[u8], kind: u64, place: usize, out: &mut [u8], n: usize) -> Place
+pub(crate) fn write_case(
+    rt: &(impl Print + Eprint),
+    s: &[u8],
+    kind: u64,
+    place: usize,
+    out: &mut [u8],
+    n: usize,
+) -> Place
     ensures { EndsWithin s.now result }
 {
     let at = take(s, place);
@@ -155,6 +170,14 @@ pub(crate) fn write_case(s: &[u8], kind: u64, place: usize, out: &mut [u8], n: u
         number: number.value,
         event: event_of(numbers),
     };
-    let end = write_line(&mut room[0..count], event, at.value as usize, kind, out, n);
+    let end = write_line(
+        rt,
+        &mut room[0..count],
+        event,
+        at.value as usize,
+        kind,
+        out,
+        n,
+    );
     Place { next: to, n: end }
 }

@@ -10,7 +10,7 @@ mod ports;
 mod runs;
 mod walks;
 
-use casefile::{Place, START, next_case, take};
+use casefile::{BUFFER, Place, START, next_case, take};
 use output::write_out;
 
 const READ_EVENT: u64 = 12;
@@ -22,30 +22,31 @@ const PORT_WALK: u64 = 14;
 const RUNS: u64 = 15;
 
 // The case at a place. An unknown kind ends the run: nothing after it could be told apart.
-fn one_case(s: &[u8], place: usize, out: &mut [u8], n: usize) -> Place
+fn one_case(rt: &(impl Print + Eprint), s: &[u8], place: usize, out: &mut [u8], n: usize) -> Place
     ensures { EndsWithin s.now result }
 {
     let kind = take(s, place);
     let next = kind.next;
     let code = kind.value;
     match code {
-        READ_EVENT => events::read_case(s, code, next, out, n),
-        WRITE_EVENT => events::write_case(s, code, next, out, n),
-        PORT_WALK => walks::walk_case(s, code, next, out, n),
-        RUNS => runs::run_case(s, code, next, out, n),
+        READ_EVENT => events::read_case(rt, s, code, next, out, n),
+        WRITE_EVENT => events::write_case(rt, s, code, next, out, n),
+        PORT_WALK => walks::walk_case(rt, s, code, next, out, n),
+        RUNS => runs::run_case(rt, s, code, next, out, n),
         _ => Place { next: s.len(), n },
     }
 }
 
 // In the first turn nothing is ahead yet: no case is there to take.
-fn main() {
-    let mut window = io::large_buffer();
-    let mut out = io::large_buffer();
+fn main(rt: HostRuntime) {
+    let mut input = rt.stdin();
+    let mut window = [0u8; BUFFER];
+    let mut out = [0u8; BUFFER];
     let mut turn = START;
     while 0 < turn.left {
         let to = turn.to;
-        let at = one_case(&window[0..to], turn.from, &mut out, turn.n);
-        turn = next_case(&mut window, turn, at);
+        let at = one_case(&rt, &window[0..to], turn.from, &mut out, turn.n);
+        turn = next_case(&mut input, &mut window, turn, at);
     }
-    write_out(&out, turn.n, 0);
+    write_out(&rt, &out, turn.n, 0);
 }

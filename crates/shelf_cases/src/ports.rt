@@ -98,16 +98,17 @@ pub(crate) fn take_port(s: &[u8], place: usize, queue: &mut [u64]) -> PortTaken
     }
 }
 
-fn put_bay(out: &mut [u8], n: usize, kind: u64, bay: Bay) -> usize {
+fn put_bay(rt: &(impl Print + Eprint), out: &mut [u8], n: usize, kind: u64, bay: Bay) -> usize {
     let fields = phy_numbers(bay.phy);
     let clock: [u64; CLOCK] = [bay.base, bay.baseSet];
     let head = put_numbers(out, n, kind, &fields);
     let end = put_more(out, head, &clock);
-    end_line(out, end)
+    end_line(rt, out, end)
 }
 
 // A line for each bay that counts, and one for the queue.
 pub(crate) fn put_port(
+    rt: &(impl Print + Eprint),
     out: &mut [u8],
     n: usize,
     kind: u64,
@@ -119,8 +120,8 @@ pub(crate) fn put_port(
     let mut end = n;
     let mut i = 0;
     while i < shown {
-        end = put_bay(out, end, kind, row.bays[i]);
+        end = put_bay(rt, out, end, kind, row.bays[i]);
         i += 1;
     }
-    put_line(out, end, kind, queue)
+    put_line(rt, out, end, kind, queue)
 }

@@ -5,7 +5,7 @@ ghost use Rattle.shelf_run.specs.Promises.{Runs};
 ghost use Rattle.held.specs.Rows.{most_held, front};
 
 use crate::ports::{MOST_QUEUE, PortTaken, put_port, take_port};
-use casefile::{Place, put_piece, put_pieces, put_repeats, take};
+use casefile::{BUFFER, Place, put_piece, put_pieces, put_repeats, take};
 use held::Row;
 use output::put_line;
 use shelf_run::Ran;
@@ -35,7 +35,7 @@ fn run_row(
 }
 
 // refusal, count, how, fault, its place
-fn put_ran(out: &mut [u8], n: usize, kind: u64, ran: Ran) -> usize {
+fn put_ran(rt: &(impl Print + Eprint), out: &mut [u8], n: usize, kind: u64, ran: Ran) -> usize {
     let stop = ran.stop;
     let line = [
         stop.refusal,
@@ -44,7 +44,7 @@ fn put_ran(out: &mut [u8], n: usize, kind: u64, ran: Ran) -> usize {
         stop.fault,
         stop.place as u64,
     ];
-    put_line(out, n, kind, &line)
+    put_line(rt, out, n, kind, &line)
 }
 
 // How far the runs of a case have come: the row, where the case file is read next, and how much output is
@@ -58,6 +58,7 @@ struct Gone {
 
 // How the run went, the buffer after it, and the port.
 fn put_run(
+    rt: &(impl Print + Eprint),
     gone: Gone,
     count: usize,
     queue: &mut [u64],
@@ -72,12 +73,12 @@ fn put_run(
 {
     let r = run_row(gone.row, count, queue, trace, budget, lent);
     let row = r.row;
-    let line = put_ran(out, gone.n, kind, r.ran);
-    let shown = put_repeats(out, line, kind, lent);
+    let line = put_ran(rt, out, gone.n, kind, r.ran);
+    let shown = put_repeats(rt, out, line, kind, lent);
     Gone {
         row,
         next: gone.next,
-        n: put_port(out, shown, kind, row, count, queue),
+        n: put_port(rt, out, shown, kind, row, count, queue),
     }
 }
 
@@ -104,20 +105,29 @@ fn paint(s: &[u8], place: usize, buffer: &mut [u8]) -> Painted
 }
 
 // budget, buffer, pieces
-fn one_run(s: &[u8], kind: u64, count: usize, queue: &mut [u64], gone: Gone, out: &mut [u8]) -> Gone
+fn one_run(
+    rt: &(impl Print + Eprint),
+    s: &[u8],
+    kind: u64,
+    count: usize,
+    queue: &mut [u64],
+    gone: Gone,
+    out: &mut [u8],
+) -> Gone
     requires { count ≤ most_held }
     ensures { result.next ≤ length s.now }
 {
     let budget = take(s, gone.next);
-    let mut lent = io::large_buffer();
+    let mut lent = [0u8; BUFFER];
     let painted = paint(s, budget.next, &mut lent);
     let end = painted.length;
-    let mut trace = io::large_buffer();
+    let mut trace = [0u8; BUFFER];
     let made = put_pieces(s, painted.next, &mut trace);
     let length = made.length;
     let mut start = gone;
     start.next = made.next;
     put_run(
+        rt,
         start,
         count,
         queue,
@@ -130,6 +140,7 @@ fn one_run(s: &[u8], kind: u64, count: usize, queue: &mut [u64], gone: Gone, out
 }
 
 fn all_runs(
+    rt: &(impl Print + Eprint),
     s: &[u8],
     kind: u64,
     runs: u64,
@@ -145,13 +156,14 @@ fn all_runs(
     let mut gone = start;
     while 0 < left {
         left -= 1;
-        gone = one_run(s, kind, count, queue, gone, out);
+        gone = one_run(rt, s, kind, count, queue, gone, out);
     }
     gone
 }
 
 // count, runs: for each the lines
 fn run_port(
+    rt: &(impl Print + Eprint),
     s: &[u8],
     kind: u64,
     port: PortTaken,
@@ -169,7 +181,7 @@ fn run_port(
         next: runs.next,
         n,
     };
-    let gone = all_runs(s, kind, runs.value, port.count, queue, start, out);
+    let gone = all_runs(rt, s, kind, runs.value, port.count, queue, start, out);
     Place {
         next: gone.next,
         n: gone.n,
@@ -177,11 +189,18 @@ fn run_port(
 }
 
 // port, runs
-pub(crate) fn run_case(s: &[u8], kind: u64, place: usize, out: &mut [u8], n: usize) -> Place
+pub(crate) fn run_case(
+    rt: &(impl Print + Eprint),
+    s: &[u8],
+    kind: u64,
+    place: usize,
+    out: &mut [u8],
+    n: usize,
+) -> Place
     ensures { EndsWithin s.now result }
 {
     let mut room = [0u64; MOST_QUEUE];
     let port = take_port(s, place, &mut room);
     let length = port.length;
-    run_port(s, kind, port, &mut room[0..length], out, n)
+    run_port(rt, s, kind, port, &mut room[0..length], out, n)
 }

@@ -18,7 +18,13 @@ struct Walk {
 
 // refusal, answer, both notices and sent, each with its tick, the answer's Open, the phy that received an
 // Open, what it sent
-fn put_stepped(out: &mut [u8], n: usize, kind: u64, r: Stepped) -> usize {
+fn put_stepped(
+    rt: &(impl Print + Eprint),
+    out: &mut [u8],
+    n: usize,
+    kind: u64,
+    r: Stepped,
+) -> usize {
     let reports = r.reports;
     let answer = reports.answer;
     let notice = reports.notice;
@@ -48,11 +54,12 @@ fn put_stepped(out: &mut [u8], n: usize, kind: u64, r: Stepped) -> usize {
     ];
     let first = put_numbers(out, n, kind, &head);
     let end = put_more(out, first, &rest);
-    end_line(out, end)
+    end_line(rt, out, end)
 }
 
 // number, event: what the port gives
 fn one_event(
+    rt: &(impl Print + Eprint),
     s: &[u8],
     kind: u64,
     count: usize,
@@ -70,11 +77,12 @@ fn one_event(
     Walk {
         row,
         next,
-        n: put_stepped(out, walk.n, kind, r.stepped),
+        n: put_stepped(rt, out, walk.n, kind, r.stepped),
     }
 }
 
 fn all_events(
+    rt: &(impl Print + Eprint),
     s: &[u8],
     kind: u64,
     events: u64,
@@ -89,13 +97,14 @@ fn all_events(
     let mut walk = start;
     while 0 < left {
         left -= 1;
-        walk = one_event(s, kind, count, queue, walk, out);
+        walk = one_event(rt, s, kind, count, queue, walk, out);
     }
     walk
 }
 
 // count, events: what each gives, and the port after the last
 fn walk_port(
+    rt: &(impl Print + Eprint),
     s: &[u8],
     kind: u64,
     port: PortTaken,
@@ -112,19 +121,26 @@ fn walk_port(
         next: events.next,
         n,
     };
-    let walk = all_events(s, kind, events.value, port.count, queue, start, out);
+    let walk = all_events(rt, s, kind, events.value, port.count, queue, start, out);
     Place {
         next: walk.next,
-        n: put_port(out, walk.n, kind, walk.row, port.count, queue),
+        n: put_port(rt, out, walk.n, kind, walk.row, port.count, queue),
     }
 }
 
 // port, events
-pub(crate) fn walk_case(s: &[u8], kind: u64, place: usize, out: &mut [u8], n: usize) -> Place
+pub(crate) fn walk_case(
+    rt: &(impl Print + Eprint),
+    s: &[u8],
+    kind: u64,
+    place: usize,
+    out: &mut [u8],
+    n: usize,
+) -> Place
     ensures { EndsWithin s.now result }
 {
     let mut room = [0u64; MOST_QUEUE];
     let port = take_port(s, place, &mut room);
     let length = port.length;
-    walk_port(s, kind, port, &mut room[0..length], out, n)
+    walk_port(rt, s, kind, port, &mut room[0..length], out, n)
 }

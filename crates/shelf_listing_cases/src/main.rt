@@ -5,7 +5,7 @@
 
 ghost use Rattle.casefile.specs.Promises.{EndsWithin};
 
-use casefile::{Place, START, next_case, put_pieces, take};
+use casefile::{BUFFER, Place, START, next_case, put_pieces, take};
 use lines::LineWritten;
 use output::{GATHERED, write_out};
 
@@ -17,7 +17,14 @@ fn total(kept: usize, whole: bool) -> usize {
 }
 
 // The lines of a shelf trace that is `total` bytes long.
-fn put_listing(trace: &[u8], total: usize, phys: usize, out: &mut [u8], n: usize) -> usize {
+fn put_listing(
+    rt: &(impl Print + Eprint),
+    trace: &[u8],
+    total: usize,
+    phys: usize,
+    out: &mut [u8],
+    n: usize,
+) -> usize {
     let mut progress = lines::start(total);
     let mut shelf = shelf_listing::fresh(phys);
     let mut end = n;
@@ -28,7 +35,7 @@ fn put_listing(trace: &[u8], total: usize, phys: usize, out: &mut [u8], n: usize
         match written {
             LineWritten::Line { next, length } => {
                 progress = next;
-                end = write_out(out, end + length, GATHERED);
+                end = write_out(rt, out, end + length, GATHERED);
             }
             LineWritten::Done { whole: _ } => return end,
             // Only after a failed write: otherwise what is gathered goes out while a line still has room.
@@ -38,15 +45,15 @@ fn put_listing(trace: &[u8], total: usize, phys: usize, out: &mut [u8], n: usize
 }
 
 // phys, pieces: the listing of the trace that they make
-fn list_case(s: &[u8], place: usize, out: &mut [u8], n: usize) -> Place
+fn list_case(rt: &(impl Print + Eprint), s: &[u8], place: usize, out: &mut [u8], n: usize) -> Place
     ensures { EndsWithin s.now result }
 {
     let phys = take(s, place);
-    let mut trace = io::large_buffer();
+    let mut trace = [0u8; BUFFER];
     let made = put_pieces(s, phys.next, &mut trace);
     let length = made.length;
     let most = total(length, made.whole);
-    let end = put_listing(&trace[..length], most, phys.value as usize, out, n);
+    let end = put_listing(rt, &trace[..length], most, phys.value as usize, out, n);
     Place {
         next: made.next,
         n: end,
@@ -54,25 +61,26 @@ fn list_case(s: &[u8], place: usize, out: &mut [u8], n: usize) -> Place
 }
 
 // The case at a place. An unknown kind ends the run: nothing after it could be told apart.
-fn one_case(s: &[u8], place: usize, out: &mut [u8], n: usize) -> Place
+fn one_case(rt: &(impl Print + Eprint), s: &[u8], place: usize, out: &mut [u8], n: usize) -> Place
     ensures { EndsWithin s.now result }
 {
     let kind = take(s, place);
     if kind.value == LISTING {
-        return list_case(s, kind.next, out, n);
+        return list_case(rt, s, kind.next, out, n);
     }
     Place { next: s.len(), n }
 }
 
 // In the first turn nothing is ahead yet: no case is there to take.
-fn main() {
-    let mut window = io::large_buffer();
-    let mut out = io::large_buffer();
+fn main(rt: HostRuntime) {
+    let mut input = rt.stdin();
+    let mut window = [0u8; BUFFER];
+    let mut out = [0u8; BUFFER];
     let mut turn = START;
     while 0 < turn.left {
         let to = turn.to;
-        let at = one_case(&window[0..to], turn.from, &mut out, turn.n);
-        turn = next_case(&mut window, turn, at);
+        let at = one_case(&rt, &window[0..to], turn.from, &mut out, turn.n);
+        turn = next_case(&mut input, &mut window, turn, at);
     }
-    write_out(&out, turn.n, 0);
+    write_out(&rt, &out, turn.n, 0);
 }

@@ -14,7 +14,13 @@ const MOST_BUFFER: usize = 96;
 const LINE: usize = 10;
 
 // how, refusal, place reached, code, arguments
-pub(crate) fn put_said(out: &mut [u8], n: usize, kind: u64, said: EventReply) -> usize
+pub(crate) fn put_said(
+    rt: &(impl Print + Eprint),
+    out: &mut [u8],
+    n: usize,
+    kind: u64,
+    said: EventReply,
+) -> usize
     ensures { PutsNumbersLine kind (reply_numbers said) out.old n result out.new }
 {
     let e = said.event;
@@ -30,11 +36,18 @@ pub(crate) fn put_said(out: &mut [u8], n: usize, kind: u64, said: EventReply) ->
         e.fifth,
         e.sixth,
     ];
-    put_line(out, n, kind, &line)
+    put_line(rt, out, n, kind, &line)
 }
 
 // place, bytes: what was read there
-pub(crate) fn read_case(s: &[u8], kind: u64, place: usize, out: &mut [u8], n: usize) -> Place
+pub(crate) fn read_case(
+    rt: &(impl Print + Eprint),
+    s: &[u8],
+    kind: u64,
+    place: usize,
+    out: &mut [u8],
+    n: usize,
+) -> Place
     ensures { EndsWithin s.now result }
 {
     let at = take(s, place);
@@ -44,11 +57,12 @@ pub(crate) fn read_case(s: &[u8], kind: u64, place: usize, out: &mut [u8], n: us
     let said = replies::read_event(&s[from..to], at.value as usize);
     Place {
         next: to,
-        n: put_said(out, n, kind, said),
+        n: put_said(rt, out, n, kind, said),
     }
 }
 
 fn write_line(
+    rt: &(impl Print + Eprint),
     buffer: &mut [u8],
     event: Event,
     place: usize,
@@ -60,11 +74,18 @@ fn write_line(
     let said = [r.refusal, r.length as u64];
     let head = put_numbers(out, n, kind, &said);
     let end = put_bytes(out, head, buffer);
-    end_line(out, end)
+    end_line(rt, out, end)
 }
 
 // place, event, buffer before: refusal, length, buffer after
-pub(crate) fn write_case(s: &[u8], kind: u64, place: usize, out: &mut [u8], n: usize) -> Place
+pub(crate) fn write_case(
+    rt: &(impl Print + Eprint),
+    s: &[u8],
+    kind: u64,
+    place: usize,
+    out: &mut [u8],
+    n: usize,
+) -> Place
     ensures { EndsWithin s.now result }
 {
     let at = take(s, place);
@@ -76,6 +97,7 @@ pub(crate) fn write_case(s: &[u8], kind: u64, place: usize, out: &mut [u8], n: u
     let mut room = [0u8; MOST_BUFFER];
     let count = put_all(&mut room, 0, &s[from..to]);
     let end = write_line(
+        rt,
         &mut room[0..count],
         event_of(numbers),
         at.value as usize,

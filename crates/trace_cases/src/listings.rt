@@ -1,7 +1,7 @@
 // Cases of listings: the lister's own lines, with nothing before them.
 ghost use Rattle.casefile.specs.Promises.{EndsWithin};
 
-use casefile::{Place, put_pieces};
+use casefile::{BUFFER, Place, put_pieces};
 use lines::LineWritten;
 use output::{GATHERED, write_out};
 
@@ -11,7 +11,13 @@ fn total(kept: usize, whole: bool) -> usize {
 }
 
 // The lines of a trace that is `total` bytes long.
-fn put_listing(trace: &[u8], total: usize, out: &mut [u8], n: usize) -> usize {
+fn put_listing(
+    rt: &(impl Print + Eprint),
+    trace: &[u8],
+    total: usize,
+    out: &mut [u8],
+    n: usize,
+) -> usize {
     let mut progress = lines::start(total);
     let mut bay = bay::fresh();
     let mut end = n;
@@ -22,7 +28,7 @@ fn put_listing(trace: &[u8], total: usize, out: &mut [u8], n: usize) -> usize {
         match written {
             LineWritten::Line { next, length } => {
                 progress = next;
-                end = write_out(out, end + length, GATHERED);
+                end = write_out(rt, out, end + length, GATHERED);
             }
             LineWritten::Done { whole: _ } => return end,
             // Only after a failed write: otherwise what is gathered goes out while a line still has room.
@@ -32,13 +38,19 @@ fn put_listing(trace: &[u8], total: usize, out: &mut [u8], n: usize) -> usize {
 }
 
 // pieces: the listing of the trace that they make
-pub(crate) fn list_case(s: &[u8], place: usize, out: &mut [u8], n: usize) -> Place
+pub(crate) fn list_case(
+    rt: &(impl Print + Eprint),
+    s: &[u8],
+    place: usize,
+    out: &mut [u8],
+    n: usize,
+) -> Place
     ensures { EndsWithin s.now result }
 {
-    let mut trace = io::large_buffer();
+    let mut trace = [0u8; BUFFER];
     let made = put_pieces(s, place, &mut trace);
     let length = made.length;
-    let end = put_listing(&trace[..length], total(length, made.whole), out, n);
+    let end = put_listing(rt, &trace[..length], total(length, made.whole), out, n);
     Place {
         next: made.next,
         n: end,

@@ -3,14 +3,15 @@ ghost use Rattle.std.specs.Prelude.{◌≤◌, max, length};
 ghost use Rattle.casefile.specs.Promises.{EndsWithin};
 
 use casefile::{
-    PHY_NUMBERS, Place, phy_numbers, phy_of, put_piece, put_pieces, put_repeats, take, take_many,
+    BUFFER, PHY_NUMBERS, Place, phy_numbers, phy_of, put_piece, put_pieces, put_repeats, take,
+    take_many,
 };
 use output::{end_line, put_more, put_numbers};
 use phy::Phy;
 use replies::RunReply;
 
 // refusal, count, how, fault, its place, bay
-fn put_ran(out: &mut [u8], n: usize, kind: u64, r: RunReply) -> usize {
+fn put_ran(rt: &(impl Print + Eprint), out: &mut [u8], n: usize, kind: u64, r: RunReply) -> usize {
     let stop = r.stop;
     let head = [
         stop.refusal,
@@ -25,7 +26,7 @@ fn put_ran(out: &mut [u8], n: usize, kind: u64, r: RunReply) -> usize {
     let first = put_numbers(out, n, kind, &head);
     let middle = put_more(out, first, &numbers);
     let end = put_more(out, middle, &clock);
-    end_line(out, end)
+    end_line(rt, out, end)
 }
 
 // The phy after a run, and how much output is gathered.
@@ -37,6 +38,7 @@ struct After {
 
 // How the run went, and the buffer after it.
 fn put_run(
+    rt: &(impl Print + Eprint),
     state: Phy,
     trace: &[u8],
     budget: usize,
@@ -48,10 +50,10 @@ fn put_run(
     let r = replies::run(state, trace, budget, lent);
     let bay = r.next;
     let state = bay.phy;
-    let line = put_ran(out, n, kind, r);
+    let line = put_ran(rt, out, n, kind, r);
     After {
         state,
-        n: put_repeats(out, line, kind, lent),
+        n: put_repeats(rt, out, line, kind, lent),
     }
 }
 
@@ -65,20 +67,21 @@ struct Gone {
 }
 
 // budget, length and byte of the buffer, pieces
-fn one_run(s: &[u8], kind: u64, gone: Gone, out: &mut [u8]) -> Gone
+fn one_run(rt: &(impl Print + Eprint), s: &[u8], kind: u64, gone: Gone, out: &mut [u8]) -> Gone
     ensures { result.next ≤ length s.now }
 {
     let budget = take(s, gone.next);
     let room = take(s, budget.next);
     let byte = take(s, room.next);
-    let mut lent = io::large_buffer();
+    let mut lent = [0u8; BUFFER];
     let before = [(byte.value % 256) as u8];
     let painted = put_piece(&before, room.value, &mut lent, 0);
     let count = painted.length;
-    let mut trace = io::large_buffer();
+    let mut trace = [0u8; BUFFER];
     let made = put_pieces(s, byte.next, &mut trace);
     let length = made.length;
     let after = put_run(
+        rt,
         gone.state,
         &trace[..length],
         budget.value as usize,
@@ -95,20 +98,34 @@ fn one_run(s: &[u8], kind: u64, gone: Gone, out: &mut [u8]) -> Gone
     }
 }
 
-fn all_runs(s: &[u8], kind: u64, count: u64, start: Gone, out: &mut [u8]) -> Gone
+fn all_runs(
+    rt: &(impl Print + Eprint),
+    s: &[u8],
+    kind: u64,
+    count: u64,
+    start: Gone,
+    out: &mut [u8],
+) -> Gone
     ensures { result.next ≤ max start.next (length s.now) }
 {
     let mut left = count;
     let mut gone = start;
     while 0 < left {
         left -= 1;
-        gone = one_run(s, kind, gone, out);
+        gone = one_run(rt, s, kind, gone, out);
     }
     gone
 }
 
 // phy, count, runs: for each the two lines
-pub(crate) fn run_case(s: &[u8], kind: u64, place: usize, out: &mut [u8], n: usize) -> Place
+pub(crate) fn run_case(
+    rt: &(impl Print + Eprint),
+    s: &[u8],
+    kind: u64,
+    place: usize,
+    out: &mut [u8],
+    n: usize,
+) -> Place
     ensures { EndsWithin s.now result }
 {
     let mut fields = [0u64; PHY_NUMBERS];
@@ -119,7 +136,7 @@ pub(crate) fn run_case(s: &[u8], kind: u64, place: usize, out: &mut [u8], n: usi
         next: count.next,
         n,
     };
-    let gone = all_runs(s, kind, count.value, start, out);
+    let gone = all_runs(rt, s, kind, count.value, start, out);
     Place {
         next: gone.next,
         n: gone.n,
