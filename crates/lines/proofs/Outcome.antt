@@ -70,7 +70,7 @@ module _ {S E : Type 0} (m : Listable S E) where
   from_place {s} {place} {count} {b} q (over e) =
       absurd (something m place count b (m.reads s place) (sym (ap (λ (p : Progress). line_at m s p b) q) ∙ e))
   from_place {s} {place} {count} {b} q (more e l) =
-      by_reading count b (m.reads s place) refl (sym (ap (λ (p : Progress). line_at m s p b) q) ∙ e) l (λ after many r. from_place r l)
+      by_reading count b (m.reads s place) refl (sym (ap (λ (p : Progress). line_at m s p b) q) ∙ e) l (λ after many r. from_place {place = after} r l)
 
   -- ---- from the start on
 

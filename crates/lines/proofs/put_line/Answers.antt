@@ -10,8 +10,7 @@ use lib.ListN.{length}
 use Rattle.lines.specs.Promises.{fits, PutsLine}
 use Rattle.lines.specs.declared.Progress.{Progress}
 use Rattle.lines.specs.declared.LineWritten.TheVariants.{NoRoom}
-use Rattle.lines.proofs.put_line.Statement.{statement}
-use Rattle.lines.proofs.put_line.Tie as tie
+use Rattle.lines.proofs.put_line.Goals as goal
 
 no_room_lem :
     {line before : List ℕ} {next : Progress} {at : ℕ} → length before < at + length line
@@ -20,19 +19,15 @@ no_room_lem {line} {before} {at = at} h =
     let f : fits line before at ≡ false = lt-leb (at + length line) (length before) h in
     record { says = rw f; bytes = rw f }
 
-returns-3 : tie.Need-returns-3
-returns-3 c =
-    let start = c.before.before.before.before.before.before.before.before in
-    let line = start.args.line.now in
-    let out = start.args.out.now in
-    let f : fits line out start.args.at ≡ true = le-leb (start.args.at + length line) (length out) (omega arith) in
-    record { says = rw f; bytes = rw f c.before.before.put_all.ensures.puts.stored }
+pub returns-then-out-at : goal.returns-then-out-at
+returns-then-out-at c = no_room_lem (omega arith)
 
-pub put_line_spec : {M : Type 1} → statement M
-put_line_spec =
-    tie.close
-    (tie.spec
-    (λ c. no_room_lem (omega arith))
-    (λ c. search rules)
-    (λ c. no_room_lem (omega arith))
-    (λ _ _. tt) (λ c. search rules) returns-3)
+pub returns-then-out-at-2 : goal.returns-then-out-at-2
+returns-then-out-at-2 c = no_room_lem (omega arith)
+
+pub returns : goal.returns
+returns c =
+    let line = c.args.line.now in
+    let out = c.args.out.now in
+    let f : fits line out c.args.at ≡ true = le-leb (c.args.at + length line) (length out) (omega arith) in
+    record { says = rw f; bytes = rw f c.put_all.ensures.puts.stored }
