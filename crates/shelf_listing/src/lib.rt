@@ -18,7 +18,7 @@ use lines::{LineWritten, Progress, put_end, put_line, put_stop, put_too_long};
 use shelf::ShelfRead;
 
 // The bays of a port, of which the first `phys` count, and the Opens that wait.
-#[derive(Drop)]
+#[derive(Clone, Copy)]
 pub struct Shelf {
     pub row: Row,
     pub phys: usize,
