@@ -1,14 +1,12 @@
 -- The event is stored first and the phy number before it: that is one store of the bytes of both. Room for the number and then for the event behind it is room for both.
-use Prim.Native.Nat.{ℕ, suc, ◌+◌, ◌-◌, ◌≤◌, ◌<◌}
+use Prim.Native.Nat.{ℕ, suc, ◌+◌, ◌≤◌, ◌<◌}
 use mathlib.Core.Bool.{true, false}
 use mathlib.Core.List.{List, [], ◌∷◌, ◌++◌}
 use mathlib.Core.Path.{◌≡◌, refl, sym, ap, ◌∙◌}
 use native.Mathlib.Omega.{arith}
 use borrow.Author.Tests.{le-leb, lt-leb}
-use lib.Dec.{leb}
 use lib.ListN.{length, set, length-append}
 use lib.Seq.{sets, set_comm, length-sets}
-use Rattle.table.proofs.Laws.{by_order}
 use Rattle.number.specs.Writing.{number_bytes}
 use Rattle.number.specs.Writing as number
 use Rattle.event.specs.Table.{known_in_trace}
@@ -20,15 +18,6 @@ use Rattle.trace.proofs.Refusals.{no_room_exactly, refused_keeps}
 use Rattle.trace.proofs.RoundTrip.{Fits, fitted}
 use Rattle.shelf.specs.Writing.{shelf_bytes, shelf_fits}
 use Rattle.shelf.specs.Promises.{WritesShelf}
-
--- ---- room
-
--- bytes that fit into what is left behind a place fit from the place on
-pub room_left : (bytes place n : ℕ) → place ≤ n → leb bytes (n - place) ≡ leb (place + bytes) n
-room_left bytes place n h =
-    by_order n (place + bytes)
-    (λ l. lt-leb bytes (n - place) (omega arith) ∙ sym (lt-leb (place + bytes) n l))
-    (λ g. le-leb bytes (n - place) (omega arith) ∙ sym (le-leb (place + bytes) n g))
 
 -- ---- two stores
 

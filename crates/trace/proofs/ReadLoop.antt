@@ -42,31 +42,6 @@ pub record Taken (s : List ℕ) (code place : ℕ) (values : List ℕ) (next i :
   pub zeros : (k : ℕ) → i ≤ k → get_or values k 0 ≡ 0
   pub whole : arguments (arguments_of code) s place ≡ onto (take i values) (arguments (drop i (arguments_of code)) s next)
 
-abbrev no_values : List ℕ
-no_values = 0 ∷ 0 ∷ 0 ∷ 0 ∷ 0 ∷ 0 ∷ []
-
-no_values_lem : (k : ℕ) → get_or no_values k 0 ≡ 0
-no_values_lem zero = refl
-no_values_lem (suc zero) = refl
-no_values_lem (suc (suc zero)) = refl
-no_values_lem (suc (suc (suc zero))) = refl
-no_values_lem (suc (suc (suc (suc zero)))) = refl
-no_values_lem (suc (suc (suc (suc (suc zero))))) = refl
-no_values_lem (suc (suc (suc (suc (suc (suc k)))))) = refl
-
-onto_none : (g : Got (List ℕ)) → g ≡ onto [] g
-onto_none (got vs next) = refl
-onto_none (fault n) = refl
-
-pub taken_start : (s : List ℕ) (code place : ℕ) → Taken s code place no_values place 0
-taken_start s code place =
-    record {
-      few = omega arith;
-      six = refl;
-      zeros = λ k h. no_values_lem k;
-      whole = onto_none (arguments (arguments_of code) s place);
-    }
-
 module _ {s : List ℕ} {code place : ℕ} {values : List ℕ} {next i : ℕ} (t : Taken s code place values next i) where
   -- ---- an argument is left
   module _ (h : i < argument_count code) where

@@ -3,11 +3,8 @@ use mathlib.Core.Path.{sym, ap}
 use native.Mathlib.Omega.{arith}
 use Rattle.trace.specs.Reading.{said}
 use Rattle.trace.proofs.Known.{six_arguments}
-use Rattle.trace.proofs.ReadLoop.{taken_start, taken_fault, taken_bad, taken_on, taken_done}
+use Rattle.trace.proofs.ReadLoop.{taken_fault, taken_bad, taken_on, taken_done}
 use Rattle.trace.proofs.read_arguments.Goals as goal
-
-pub loop-i-init : goal.loop-i-init
-loop-i-init c = taken_start _ _ _
 
 pub offset_bounds-values-i : goal.offset_bounds-values-i
 offset_bounds-values-i c = omega (arith, six_arguments c.args.code)

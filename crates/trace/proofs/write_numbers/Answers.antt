@@ -13,10 +13,6 @@ loop-i-init c =
 pub loop-i-preserved : goal.loop-i-preserved
 loop-i-preserved c = filling_on c.loop-i.invariant c.loop-i-test.true c.in-Length.ensures
 
-pub overflow_add-at : goal.overflow_add-at
-overflow_add-at c =
-    let on = filling_on c.loop-i.invariant c.loop-i-test.true c.in-Length.ensures in omega (arith, on.room, on.long)
-
 pub returns-in-NoRoom : goal.returns-in-NoRoom
 returns-in-NoRoom c = absurd (filling_room c.loop-i.invariant c.loop-i-test.true c.in-NoRoom.ensures)
 
