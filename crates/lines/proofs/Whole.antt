@@ -159,7 +159,7 @@ module _ {S E : Type 0} (m : Listable S E) (on : ReadsOn m) where
     from_lines {place} {count} {b} a q (over e) =
         absurd (something m place count b (m.reads s place) (sym (ap (λ (p : Progress). line_at m s p b) q) ∙ e))
     from_lines {place} {count} {b} a q (more e l) =
-        by_reading b a l (m.reads s place) refl (sym (ap (λ (p : Progress). line_at m s p b) q) ∙ e) (λ after many w r. from_lines {place = after} w r l)
+        by_reading b a l (m.reads s place) refl (sym (ap (λ (p : Progress). line_at m s p b) q) ∙ e) (λ after many w r. from_lines {place = after} {count = many} w r l)
 
     first : At 0 0
     first = record { inside = omega arith; few = omega arith }

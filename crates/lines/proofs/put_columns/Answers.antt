@@ -1,10 +1,6 @@
 -- `lines::put_columns` meets its contract: the numbers and the newline stand end to end in the array, which has room for them.
-use Prim.Native.Nat.{ℕ, suc, ◌≤◌, ◌<◌, ◌^◌}
-use mathlib.Core.List.{List, [], ◌∷◌}
-use native.Mathlib.Omega.{arith}
-use borrow.Author.Rules.{rules}
+use Rattle.std.proofs.Common.{ℕ, suc, ◌^◌, ◌<◌, ◌≤◌, List, [], ◌∷◌, length, get_or, arith, rules}
 use borrow.Author.Tests.{le-leb}
-use lib.ListN.{length, get_or}
 use Rattle.output.specs.Writing.{line}
 use Rattle.output.proofs.Decimal.{Small, line_short}
 use Rattle.output.proofs.Places.{puts_then, puts_whole}
@@ -18,11 +14,10 @@ all_small (v ∷ vs) h = (h 0, all_small vs (λ i. h (suc i)))
 
 pub returns : goal.returns
 returns c =
-    let few = c.if-columns-gt-MOST_COLUMNS.false in
     let small : Small (c.args.place ∷ c.args.columns.now) = (search rules, all_small c.args.columns.now (λ i. (c.type_inv.columns i).fits)) in
-    let short : length (line c.args.place c.args.columns.now) ≤ most_line = omega (arith, line_short c.args.place c.args.columns.now small, few) in
-    rw (le-leb (length c.args.columns.now) most_columns few)
+    let long : length (line c.args.place c.args.columns.now) ≤ most_line = omega (arith, line_short c.args.place c.args.columns.now small, c.if-columns-gt-MOST_COLUMNS.false) in
+    rw (le-leb (length c.args.columns.now) most_columns c.if-columns-gt-MOST_COLUMNS.false)
     (record {
-      puts = rw (puts_whole (puts_then c.put_numbers-end.ensures c.put_all-length.ensures.puts) (omega (arith, short))) at c.put_line.ensures;
-      short = short;
+      puts = rw (puts_whole (puts_then c.put_numbers-end.ensures c.put_all-length.ensures.puts) (omega (arith, long))) at c.put_line.ensures;
+      short = long;
     })
