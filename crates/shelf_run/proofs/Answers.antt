@@ -125,17 +125,17 @@ module _ (p : Port) (e : ShelfEvent) (v : valid_of most_phys p ≡ true) (k : kn
         λ h. let n : r.reports.refusal ≡ bad_event = exactly.1 (v, inr h) in byte_refusal r (λ z. omega arith) ∙ n,
       )
 
-passed : (p : Port) (s : List ℕ) (place : ℕ) (es : List ShelfEvent) (last : ℕ) → valid_of most_phys p ≡ true → ShelfPasses s place es last → NoOneTwoToPort (log most_phys p es)
-passed p s place es last v here = tt
-passed p s place es last v (on {e = e} {next} {es = later} q t) =
+passed : (s : List ℕ) (p : Port) (place : ℕ) (es : List ShelfEvent) (last : ℕ) → valid_of most_phys p ≡ true → ShelfPasses s place es last → NoOneTwoToPort (log most_phys p es)
+passed s p place es last v here = tt
+passed s p place es last v (on {e = e} {next} {es = later} q t) =
     let k = read_known s place e next q in
-    (not_one p e v k, two_exactly p e v k, passed (step_on most_phys p e).next s next later last (stays_valid most_phys p e.number e.event v) t)
+    (not_one p e v k, two_exactly p e v k, passed s (step_on most_phys p e).next next later last (stays_valid most_phys p e.number e.event v) t)
 
 pub ones_and_twos : OnesAndTwos
 ones_and_twos row numbers s budget t =
     let w = stops_well_always s budget in
     let v = (parts (good_lent numbers) (valid_of most_phys (port_in row numbers)) t).1 in
-    passed (started (port_in row numbers)) s 0 (taken s budget) w.last (started_valid (port_in row numbers) v) w.passes
+    passed s (started (port_in row numbers)) 0 (taken s budget) w.last (started_valid (port_in row numbers) v) w.passes
 
 -- ---- demand 3 of a fresh port
 

@@ -1,5 +1,4 @@
 pub mod Fronts
-pub mod Kit
 pub mod Loop
 pub mod Unset
 pub mod Over

@@ -19,7 +19,7 @@ pub struct Ran {
 }
 
 // The records of a row by value, so that the loop over the events is plain code.
-#[derive(Drop)]
+#[derive(Clone, Copy)]
 pub(crate) struct Table {
     pub(crate) bays: [Bay; MOST_PHYS],
 }
