@@ -66,9 +66,13 @@ FNR == 1 {
 # ---- the crates
 
 FILENAME ~ /\.rt$/ {
-    if (/^use [a-z_]+::[A-Za-z]+;/) {
-        split($2, part, /::|;/)
-        used[crate, part[2]] = part[1] "::" part[2]
+    if (/^use [a-z_]+::/) using = " "
+    if (using != "") {
+        using = using $0 " "
+        if (!/;/) next
+        n = split(using, part, /use |::|[{},; ]+/)
+        for (i = 4; i < n; i++) used[crate, part[i]] = part[3] "::" part[i]
+        using = ""
     }
     if (/^#\[repr\(C\)\]/) shared = 1
     else if (shared && /^pub struct /) { record = crate "::" $3; shared = 0; fields[record] = "" }

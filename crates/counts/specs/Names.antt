@@ -24,7 +24,8 @@ abbrev pub answers : List ℕ
 answers =
     answer_opened ∷ answer_retry ∷ answer_no_destination ∷ answer_pathway_blocked ∷ answer_collided
     ∷ answer_opened_by_destination ∷ answer_opened_by_other ∷ answer_bad_destination ∷ answer_rate ∷ answer_protocol
-    ∷ answer_stp_busy ∷ answer_wrong_destination ∷ answer_open_timeout ∷ answer_break_received ∷ answer_port_layer_request
+    ∷ answer_stp_busy ∷ answer_wrong_destination ∷ answer_open_timeout ∷ answer_break_received
+    ∷ answer_port_layer_request
     ∷ answer_terminated ∷ []
 
 -- the place of a number in a list; that behind the last where it is not there

@@ -1,5 +1,6 @@
 -- What is promised of dword synchronization beyond the contracts. A heading names the file of proofs/.
-use Rattle.std.specs.Prelude.{ℕ, ◌+◌, ◌-◌, ◌≤◌, ◌<◌, min, Bool, true, false, ◌||◌, List, [], ◌∷◌, ◌↔◌, ◌⊎◌, ◌≡◌, eqb, length}
+use Rattle.std.specs.Prelude.{ℕ, ◌+◌, ◌-◌, ◌≤◌, ◌<◌, min, Bool, true, false, ◌||◌, List, [], ◌∷◌, ◌↔◌, ◌⊎◌, ◌≡◌, eqb}
+use Rattle.std.specs.Prelude.{length}
 use Rattle.table.specs.Choice.{pick, Row, ◌⇒◌, rows}
 use Rattle.table.specs.Refusals.{bad_state, bad_event}
 use Rattle.table.specs.Results.{Determines}
@@ -31,7 +32,8 @@ NotRefusedExactly = (s event : ℕ) → (step_of s event).refusal ≡ 0 ↔ (s �
 
 -- a refused step gives the state back and reports nothing
 abbrev pub RefusedKeeps : Type 0
-RefusedKeeps = (s event : ℕ) → ((step_of s event).refusal ≡ 0 → ⊥) → step_of s event ≡ refused s (step_of s event).refusal
+RefusedKeeps =
+    (s event : ℕ) → ((step_of s event).refusal ≡ 0 → ⊥) → step_of s event ≡ refused s (step_of s event).refusal
 
 -- a valid state stays valid
 abbrev pub StaysValid : Type 0
@@ -123,7 +125,8 @@ acquired_still s [] = false
 acquired_still s (event ∷ events) =
     pick (eqb (step_of s event).report acquired)
     true
-    (pick (eqb (step_of s event).report lost || eqb event restart) false (acquired_still (step_of s event).state events))
+    (pick (eqb (step_of s event).report lost || eqb event restart) false
+    (acquired_still (step_of s event).state events))
 
 -- between two reports of acquisition there is a loss or a restart, over any events, refused ones among them
 abbrev pub LostBetween : Type 0

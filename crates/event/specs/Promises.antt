@@ -1,6 +1,7 @@
 -- What each public function promises, cited by its `ensures` and by `Determined` in Laws.
 use Rattle.std.specs.Prelude.{ℕ, Bool, ◌≡◌}
-use Rattle.event.specs.Table.{argument_count, argument_range, code_in_trace, known_of, known_in_trace, open_known, open_of}
+use Rattle.event.specs.Table.{argument_count, argument_range, code_in_trace, known_of, known_in_trace, open_known}
+use Rattle.event.specs.Table.{open_of}
 use Rattle.event.specs.declared.Range.{Range}
 use Rattle.event.specs.declared.Event.{Event}
 use Rattle.event.specs.declared.Open.{Open}

@@ -2,7 +2,8 @@
 use Rattle.std.specs.Prelude.{ℕ, Bool, ◌&&◌, List, [], ◌∷◌, eqb, leb, length, get_or}
 use Rattle.table.specs.Choice.{Row, ◌⇒◌, rows}
 use Rattle.event.specs.Names.{STP, tx_open, open_received, open_reject_received, phy_disabled, time_stamp, slow_rate}
-use Rattle.event.specs.Names.{fast_rate, most_tag, most_blocked_count, most_wait, most_reject, most_counter, most_address}
+use Rattle.event.specs.Names.{fast_rate, most_tag, most_blocked_count, most_wait, most_reject, most_counter}
+use Rattle.event.specs.Names.{most_address}
 use Rattle.event.specs.declared.Range.{Range}
 use Rattle.event.specs.declared.Event.{Event}
 use Rattle.event.specs.declared.Open.{Open}

@@ -68,5 +68,6 @@ reset_right i =
 -- every rule holds
 unfoldable pub valid_of : Identification → Bool
 valid_of i =
-    flags_right i && receiver_right i && count_right i && timer_right i && got_right i && typed_right i && outcome_right i
+    flags_right i && receiver_right i && count_right i && timer_right i && got_right i && typed_right i
+    && outcome_right i
     && complete_right i && time_out_right i && reset_right i

@@ -57,7 +57,8 @@ pub record AnsweredWithin (p : Phy) (o : Open) (fs : List Event) : Type 0 where
       (record {
         open_as_accepted = o;
         ticks_in_P2 =
-            many ticked_in_p2 (log step_of p before) + pick (ticked_in_p2 (entry step_of (after step_of p before) last)) 1 0;
+            many ticked_in_p2 (log step_of p before)
+            + pick (ticked_in_p2 (entry step_of (after step_of p before) last)) 1 0;
         ticks = 0;
         aips = 0;
       })

@@ -37,7 +37,8 @@ pub record Whole (s : List ℕ) : Type 0 where
 -- the outcome after the lines from the start on tells whether the trace is whole
 abbrev pub WholeExactly : Type 0
 WholeExactly =
-    (s bytes : List ℕ) (whole : Bool) → Lines of_phy s (start_of (length s)) fresh_bay whole bytes → whole ≡ true ↔ Whole s
+    (s bytes : List ℕ) (whole : Bool)
+    → Lines of_phy s (start_of (length s)) fresh_bay whole bytes → whole ≡ true ↔ Whole s
 
 -- the listing of a trace that is read without a fault ends with the trace's length and its number of events
 abbrev pub EndTells : Type 0

@@ -91,7 +91,9 @@ M4 = gives 4 (answers_to (open_to 5 ∷ ticks 2000)) (answer_open_timeout ∷ 10
 
 -- Tx Open, 999 ticks, an AIP, 2,000 ticks: 69 at tick 2,999
 abbrev pub M5 : Case
-M5 = gives 5 (answers_timed (open_to 5 ∷ (ticks 999 ++ (plain aip_received ∷ ticks 2000)))) (answer_open_timeout ∷ 2999 ∷ [])
+M5 =
+    gives 5 (answers_timed (open_to 5 ∷ (ticks 999 ++ (plain aip_received ∷ ticks 2000))))
+    (answer_open_timeout ∷ 2999 ∷ [])
 
 -- Accept, OPEN from 7, Tx Open to 7, tick: 52, with a wait of 1
 abbrev pub M6 : Case
@@ -102,7 +104,9 @@ M6 =
 
 -- the same with a Tx Open to 8: 53
 abbrev pub M7 : Case
-M7 = gives 7 (answers_to (plain accept_opens ∷ open_from 7 ∷ open_to 8 ∷ plain tick ∷ [])) (answer_opened_by_other ∷ 1 ∷ [])
+M7 =
+    gives 7 (answers_to (plain accept_opens ∷ open_from 7 ∷ open_to 8 ∷ plain tick ∷ []))
+    (answer_opened_by_other ∷ 1 ∷ [])
 
 -- OPEN, BREAK, Tx Open, tick: 51
 abbrev pub M8 : Case
@@ -110,7 +114,9 @@ M8 = gives 8 (answers_to (open_from 7 ∷ plain break_received ∷ open_to 5 ∷
 
 -- Tx Open, Cancel, BREAK: 71
 abbrev pub M9 : Case
-M9 = gives 9 (answers_to (open_to 5 ∷ plain cancel_open ∷ plain break_received ∷ [])) (answer_port_layer_request ∷ 0 ∷ [])
+M9 =
+    gives 9 (answers_to (open_to 5 ∷ plain cancel_open ∷ plain break_received ∷ []))
+    (answer_port_layer_request ∷ 0 ∷ [])
 
 -- Tx Open twice: the second is refused with 3
 abbrev pub M10 : Case

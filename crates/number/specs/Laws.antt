@@ -1,5 +1,6 @@
 -- What is promised of numbers beyond the contracts. A heading names the files of proofs/.
-use Rattle.std.specs.Prelude.{ℕ, ◌+◌, ◌*◌, ◌%◌, ◌^◌, ◌≤◌, ◌<◌, List, [], ◌∷◌, ◌++◌, map, ◌↔◌, ◌⊎◌, ◌≡◌, ltb, length, drop, replicate}
+use Rattle.std.specs.Prelude.{ℕ, ◌+◌, ◌*◌, ◌%◌, ◌^◌, ◌≤◌, ◌<◌, List, [], ◌∷◌, ◌++◌, map, ◌↔◌, ◌⊎◌, ◌≡◌, ltb, length}
+use Rattle.std.specs.Prelude.{drop, replicate}
 use Rattle.table.specs.Choice.{pick}
 use Rattle.table.specs.Refusals.{cut, too_large, no_room}
 use Rattle.table.specs.Results.{TellsOnce, Determines, DeterminesLent}

@@ -4,7 +4,8 @@ use Rattle.table.specs.Choice.{pick, Row, ◌⇒◌, rows}
 use Rattle.table.specs.Flags.{off, is_on}
 use Rattle.event.specs.Names.{most_wait}
 use Rattle.phy.specs.Names.{L1, L2, L3, L4, L5, L6, P2, answer_opened_by_destination, answer_opened_by_other}
-use Rattle.phy.specs.Names.{answer_open_timeout, notice_opened, notice_close_timeout, sent_open_accept, sent_open_reject}
+use Rattle.phy.specs.Names.{answer_open_timeout, notice_opened, notice_close_timeout, sent_open_accept}
+use Rattle.phy.specs.Names.{sent_open_reject}
 use Rattle.phy.specs.Names.{sent_break, full_timer, bend, most_part}
 use Rattle.phy.specs.Shapes.{◌and◌, given_up, connected, with_timer, with_waited, reports, answers, quiet}
 use Rattle.phy.specs.Moves.{to_idle}

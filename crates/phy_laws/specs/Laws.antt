@@ -1,7 +1,8 @@
 -- What holds of every step of a phy. A heading names the file of proofs/.
 use Rattle.std.specs.Prelude.{◌≤◌, ◌<◌, true, false, ◌||◌, ◌↔◌, ◌⊎◌, ◌≡◌, eqb}
 use Rattle.table.specs.Refusals.{bad_state, bad_event, busy, nothing_pending, not_connected, wrong_protocol}
-use Rattle.event.specs.Names.{SMP, tx_open, cancel_open, close_connection, smp_transmit_break, accept_opens, reject_opens}
+use Rattle.event.specs.Names.{SMP, tx_open, cancel_open, close_connection, smp_transmit_break, accept_opens}
+use Rattle.event.specs.Names.{reject_opens}
 use Rattle.event.specs.Names.{hard_reset, phy_disabled, most_wait}
 use Rattle.event.specs.Table.{known_of}
 use Rattle.event.specs.declared.Event.{Event}

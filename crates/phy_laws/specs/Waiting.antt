@@ -1,8 +1,10 @@
 -- Words about one step of a phy: whether a request waits, whether a tick can move the link, and what an answer is.
 use Rattle.std.specs.Prelude.{ℕ, Bool, ◌||◌, eqb}
 use Rattle.phy.specs.Names.{L0, L3, P2, P4, answer_opened, answer_retry, answer_no_destination, answer_pathway_blocked}
-use Rattle.phy.specs.Names.{answer_collided, answer_opened_by_destination, answer_opened_by_other, answer_bad_destination}
-use Rattle.phy.specs.Names.{answer_rate, answer_protocol, answer_stp_busy, answer_wrong_destination, answer_open_timeout}
+use Rattle.phy.specs.Names.{answer_collided, answer_opened_by_destination, answer_opened_by_other}
+use Rattle.phy.specs.Names.{answer_bad_destination}
+use Rattle.phy.specs.Names.{answer_rate, answer_protocol, answer_stp_busy, answer_wrong_destination}
+use Rattle.phy.specs.Names.{answer_open_timeout}
 use Rattle.phy.specs.Names.{answer_break_received, answer_port_layer_request, answer_terminated}
 
 -- a request waits in P2 and P4
