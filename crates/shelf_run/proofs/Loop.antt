@@ -37,35 +37,6 @@ use Rattle.shelf_run.specs.Stages.{in_use, Went, rests, byte_in, takes, puts, go
 use Rattle.shelf_run.specs.Promises.{Through}
 use Rattle.shelf_run.specs.declared.Gone.{Gone}
 
--- ---- the queue stays as long
-
-abbrev Long : List ℕ → port.Course → Type 0
-Long queue c = length c.queue ≡ length queue
-
-hand_long : (s : Standing) (number : ℕ) (b : Bay) (queue : List ℕ) (reports : Reports) → Long queue (hand_on s number b queue reports)
-unfolding hand_on
-hand_long s number b queue reports = by_pick (Long queue) (ltb 0 s.waiting && some_free s.free) (λ _. (stay_long queue s.waiting).advanced) (λ _. refl)
-
-moved_long : (s : Standing) (number : ℕ) (b : Bay) (queue : List ℕ) (r : BayStepped) → Long queue (on_moved s number b queue r)
-unfolding on_moved
-moved_long s number b queue r = by_pick (Long queue) (eqb r.refusal 0) (λ _. hand_long _ number r.next queue (reports_of r)) (λ _. refl)
-
-port_long : (s : Standing) (b : Bay) (queue : List ℕ) (e : Event) → Long queue (on_port s b queue e)
-unfolding on_port
-port_long s b queue e =
-    by_pick (Long queue) (ltb s.waiting most_waiting)
-    (λ _. by_pick (Long queue) (some_free s.free) (λ _. refl) (λ _. (stay_long queue s.waiting).joined (open_of e)))
-    (λ _. refl)
-
-taken_long : (s : Standing) (b : Bay) (queue : List ℕ) (number : ℕ) (e : Event) → Long queue (taken_of s b queue number e)
-unfolding taken_of
-taken_long s b queue number e =
-    by_pick (Long queue) (is_ports number)
-    (λ _. by_pick (Long queue) (eqb e.code tx_open) (λ _. port_long s b queue e) (λ _. refl))
-    (λ _. by_pick (Long queue) (ltb number s.count && ltb number most_phys) (λ _. moved_long s number b queue (move_of b e)) (λ _. refl))
-
--- ---- from stage to stage
-
 -- what a list has at a place does not hang on what stands for the places that it has not
 any_else : (l : List Bay) (i : ℕ) (a b : Bay) → i < length l → get_or l i a ≡ get_or l i b
 any_else [] i a b h = absurd (not-suc-le-zero h)
@@ -73,16 +44,15 @@ any_else (x ∷ l) zero a b h = refl
 any_else (x ∷ l) (suc i) a b h = any_else l i a b (le_of_suc-le-suc h)
 
 -- a record in use is one of the table
-pub in_table : (st : Standing) (at : ℕ) → in_use st at ≡ true → at < most_phys
+in_table : (st : Standing) (at : ℕ) → in_use st at ≡ true → at < most_phys
 in_table st at u = ltb-true at most_phys (parts (ltb at st.count) (ltb at most_phys) u).1
 
 -- the whole, of which so much is gone through
-pub record Stage (whole : Went) (lent : List ℕ) (s : List ℕ) (budget : ℕ) (before : List ℕ) (st : Standing) (bays : List Bay) (queue : List ℕ) (place count : ℕ) (buffer : List ℕ) : Type 0 where
+pub record Stage (whole : Went) (s : List ℕ) (budget : ℕ) (before : List ℕ) (st : Standing) (bays : List Bay) (queue : List ℕ) (place count : ℕ) (buffer : List ℕ) : Type 0 where
   pub left : ℕ
   pub spent : count + left ≡ budget
   pub room : budget ≤ length before
   pub long : length buffer ≡ length before
-  pub queued : length queue ≡ length lent
   pub tabled : length bays ≡ most_phys
   pub table : whole.bays ≡ (going left s place st bays queue).bays
   pub opens : whole.queue ≡ (going left s place st bays queue).queue
@@ -90,20 +60,12 @@ pub record Stage (whole : Went) (lent : List ℕ) (s : List ℕ) (budget : ℕ) 
   pub counts : length whole.bytes ≡ count + length (going left s place st bays queue).bytes
   pub bytes : sets before 0 whole.bytes ≡ sets buffer count (going left s place st bays queue).bytes
 
-pub stage_start : (s : List ℕ) (budget : ℕ) (before : List ℕ) (st : Standing) (bays : List Bay) (queue : List ℕ) → length bays ≡ most_phys → budget ≤ length before
-    → Stage (going budget s 0 st bays queue) queue s budget before st bays queue 0 0 before
-stage_start s budget before st bays queue l r =
-    record { left = budget; spent = omega arith; room = r; long = refl; queued = refl; tabled = l; table = refl; opens = refl; stops = refl; counts = omega arith; bytes = refl }
-
-module _ {whole : Went} {lent s : List ℕ} {budget : ℕ} {before : List ℕ} {st : Standing} {bays : List Bay} {queue : List ℕ} {place count : ℕ} {buffer : List ℕ} (w : Stage whole lent s budget before st bays queue place count buffer) where
+module _ {whole : Went} {s : List ℕ} {budget : ℕ} {before : List ℕ} {st : Standing} {bays : List Bay} {queue : List ℕ} {place count : ℕ} {buffer : List ℕ} (w : Stage whole s budget before st bays queue place count buffer) where
   abbrev fewer : ℕ
   fewer = w.left - 1
 
   some_left : count < budget → w.left ≡ suc fewer
   some_left h = omega (arith, w.spent)
-
-  pub has_room : count < budget → count < length buffer
-  has_room h = omega (arith, w.room, w.long)
 
   -- what is left, by what is read here
   by_read_lem : count < budget → {t : ToldShelf} → read_shelf s place ≡ t → going w.left s place st bays queue ≡ by_read t st bays queue (going fewer s)
@@ -113,7 +75,7 @@ module _ {whole : Went} {lent s : List ℕ} {budget : ℕ} {before : List ℕ} {
   -- an event is taken
   stage_on : (h : count < budget) {e : ShelfEvent} {next : ℕ} → read_shelf s place ≡ shelf_event e next
       → (at : ℕ) → at ≡ concerned st.free e.number → (c : port.Course) → c ≡ takes st bays queue e at
-      → Stage whole lent s budget before c.taken.standing (puts st bays at c.taken.bay) c.queue next (count + 1) (set buffer count (byte_in c.taken.stepped.reports))
+      → Stage whole s budget before c.taken.standing (puts st bays at c.taken.bay) c.queue next (count + 1) (set buffer count (byte_in c.taken.stepped.reports))
   stage_on h {e} {next} r at a c t =
       let q : going w.left s place st bays queue ≡ goes_on (going fewer s next) st bays at c
       = by_read_lem h r ∙ (λ i. goes_on (going fewer s next) st bays (sym a i) (takes st bays queue e (sym a i))) ∙ ap (goes_on (going fewer s next) st bays at) (sym t) in
@@ -122,7 +84,6 @@ module _ {whole : Went} {lent s : List ℕ} {budget : ℕ} {before : List ℕ} {
         spent = omega (arith, w.spent);
         room = w.room;
         long = length-set buffer count (byte_in c.taken.stepped.reports) ∙ w.long;
-        queued = ap (λ (x : port.Course). length x.queue) t ∙ taken_long st _ queue e.number e.event ∙ w.queued;
         tabled = by_pick (λ (l : List Bay). length l ≡ most_phys) (in_use st at) (λ _. length-set bays at c.taken.bay ∙ w.tabled) (λ _. w.tabled);
         table = w.table ∙ ap (λ (x : Went). x.bays) q;
         opens = w.opens ∙ ap (λ (x : Went). x.queue) q;
@@ -133,16 +94,16 @@ module _ {whole : Went} {lent s : List ℕ} {budget : ℕ} {before : List ℕ} {
 
   -- the same in other words
   same_stage : {next n : ℕ} {st₁ st₂ : Standing} {bays₁ bays₂ : List Bay} {queue₁ queue₂ buffer₁ buffer₂ : List ℕ} → st₁ ≡ st₂ → bays₁ ≡ bays₂ → queue₁ ≡ queue₂ → buffer₁ ≡ buffer₂
-      → Stage whole lent s budget before st₁ bays₁ queue₁ next n buffer₁ → Stage whole lent s budget before st₂ bays₂ queue₂ next n buffer₂
+      → Stage whole s budget before st₁ bays₁ queue₁ next n buffer₁ → Stage whole s budget before st₂ bays₂ queue₂ next n buffer₂
   same_stage {next} {n} p q r t v =
-      subst (λ (x : Standing × (List Bay × (List ℕ × List ℕ))). Stage whole lent s budget before x.0 x.1.0 x.1.1.0 next n x.1.1.1) (λ i. (p i, (q i, (r i, t i)))) v
+      subst (λ (x : Standing × (List Bay × (List ℕ × List ℕ))). Stage whole s budget before x.0 x.1.0 x.1.1.0 next n x.1.1.1) (λ i. (p i, (q i, (r i, t i)))) v
 
   -- as the code takes it: by a record, to what it makes of it, the queue, the byte and the records
   pub stage_next : count < budget → {e : ShelfEvent} {next : ℕ} → read_shelf s place ≡ shelf_event e next
       → (at : ℕ) → at ≡ concerned st.free e.number → (b : Bay) → b ≡ pick (in_use st at) (get_or bays at fresh_bay) fresh_bay
       → (t : Taken) (after : List ℕ) → Takes st b queue e.number e.event t after
       → (byte : ℕ) → byte ≡ byte_in t.stepped.reports → (row : List Bay) → row ≡ puts st bays at t.bay
-      → Stage whole lent s budget before t.standing row after next (count + 1) (set buffer count byte)
+      → Stage whole s budget before t.standing row after next (count + 1) (set buffer count byte)
   stage_next h {e} r at a b o t after l byte y row x =
       let q : takes st bays queue e at ≡ taken_of st b queue e.number e.event = ap (λ (own : Bay). taken_of st own queue e.number e.event) (sym o) in
       let m : (takes st bays queue e at).taken ≡ t = ap (λ (c : port.Course). c.taken) q ∙ sym l.says in

@@ -5,7 +5,7 @@ use Rattle.shelf_run.proofs.Loop.{Stage}
 use Rattle.shelf_run.proofs.events.take_events.Given as goal
 
 abbrev pub invariant-loop-count : goal.invariant-loop-count
-invariant-loop-count l = Stage (going l.budget l.trace 0 l.initial.stands l.initial.table.bays l.initial.queue) l.initial.queue l.trace l.budget l.initial.buffer l.stands l.table.bays l.queue l.place l.count l.buffer
+invariant-loop-count l = Stage (going l.budget l.trace 0 l.initial.stands l.initial.table.bays l.initial.queue) l.trace l.budget l.initial.buffer l.stands l.table.bays l.queue l.place l.count l.buffer
 
 abbrev pub decreases-loop-count : goal.decreases-loop-count
 decreases-loop-count l = l.budget - l.count
