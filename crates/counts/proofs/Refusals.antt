@@ -63,7 +63,7 @@ pub lent_refuses_all : LentRefusesAll
 unfolding lent_raised lent_asked
 lent_refuses_all ns bay answer =
     record {
-      bad_state_lem =
+      another_length =
           (λ e n. other_numbers bay (column_of answer) (rw (eq-eqb (length ns) lent_length n) at e), λ n. rw (ne_eqb (length ns) lent_length n) refl);
       others = λ e. rw (eq-eqb (length ns) lent_length e) refl;
       keeps = λ r. rw (not_lent ns bay answer r) refl;

@@ -5,8 +5,8 @@ use Rattle.table.specs.Results.{Determines, DeterminesLent}
 use Rattle.phy_laws.specs.Waiting.{is_answer}
 use Rattle.counts.specs.Names.{row_count, column_count, ceiling, answers, column_of, answer_at}
 use Rattle.counts.specs.Counters.{Counters, none, counter_at, refusal_of, raised_of, asked_of, counted}
-use Rattle.counts.specs.Lent.{lent_length, lent_as, lent_refusal, lent_raised, lent_asked, clear_refusal, lent_cleared}
-use Rattle.counts.specs.Walk.{Given, times, at_most, walked, kept, lent_kept}
+use Rattle.counts.specs.Lent.{lent_length, lent_refusal, lent_raised, lent_asked, clear_refusal, lent_cleared}
+use Rattle.counts.specs.Walk.{at_most}
 use Rattle.counts.specs.Promises.{Refuses, Clears, Raises, Asks, ClearsLent, RaisesLent, AsksLent}
 
 -- ---- results are determined (proofs/Determined)
@@ -61,7 +61,7 @@ RefusedKeeps = (t : Counters) (bay answer : ℕ) → (refusal_of bay answer ≡ 
 
 -- as they are lent: 1 for another length, whatever the bay and the answer, and with the right one as ever
 pub record LentRefuses (ns : List ℕ) (bay answer : ℕ) : Type 0 where
-  pub bad_state_lem : lent_refusal ns bay answer ≡ bad_state ↔ (length ns ≡ lent_length → ⊥)
+  pub another_length : lent_refusal ns bay answer ≡ bad_state ↔ (length ns ≡ lent_length → ⊥)
   pub others : length ns ≡ lent_length → lent_refusal ns bay answer ≡ refusal_of bay answer
   pub keeps : (lent_refusal ns bay answer ≡ 0 → ⊥) → lent_raised ns bay answer ≡ ns
   pub tells : (lent_refusal ns bay answer ≡ 0 → ⊥) → lent_asked ns bay answer ≡ counted 0 (lent_refusal ns bay answer)
@@ -99,42 +99,3 @@ pub record RaisesOne (t : Counters) (bay answer : ℕ) : Type 0 where
 
 abbrev pub RaisesOneAlone : Type 0
 RaisesOneAlone = (t : Counters) (bay answer : ℕ) → Sound t → RaisesOne t bay answer
-
--- ---- the full walk (proofs/Walk)
-
--- after a list of answers a question gives what the counter was and as often as the walk finds the answer, held at the
--- ceiling
-abbrev pub AskedFrom : Type 0
-AskedFrom =
-    (t : Counters) (gs : List Given) (bay answer : ℕ) → Sound t
-    → asked_of (kept t gs) bay answer ≡ walked bay answer (counter_at t bay (column_of answer) + times bay answer gs)
-
--- since the counters were cleared, what the walk finds
-abbrev pub AskedIsWalk : Type 0
-AskedIsWalk =
-    (gs : List Given) (bay answer : ℕ) → asked_of (kept none gs) bay answer ≡ walked bay answer (times bay answer gs)
-
--- ---- both forms agree (proofs/Agree)
-
--- after a list of answers the numbers lent are those of the rows, and a question is answered alike
-pub record Alike (t : Counters) (gs : List Given) : Type 0 where
-  pub numbers : lent_kept (lent_as t) gs ≡ lent_as (kept t gs)
-  pub refusals : (bay answer : ℕ) → lent_refusal (lent_kept (lent_as t) gs) bay answer ≡ refusal_of bay answer
-  pub questions :
-      (bay answer : ℕ) → lent_asked (lent_kept (lent_as t) gs) bay answer ≡ asked_of (kept t gs) bay answer
-
-abbrev pub FormsAgree : Type 0
-FormsAgree = (t : Counters) (gs : List Given) → Sound t → Alike t gs
-
--- clearing leaves the numbers of cleared rows
-abbrev pub ClearsAlike : Type 0
-ClearsAlike = (ns : List ℕ) → length ns ≡ lent_length → lent_cleared ns ≡ lent_as none
-
--- numbers as many as are lent, none past the ceiling, are those of rows
-pub record LentOf (ns : List ℕ) : Type 0 where
-  pub rows : Counters
-  pub sound : Sound rows
-  pub whole : ns ≡ lent_as rows
-
-abbrev pub GoodIsLent : Type 0
-GoodIsLent = (ns : List ℕ) → length ns ≡ lent_length → ((i : ℕ) → get_or ns i 0 ≤ ceiling) → LentOf ns
