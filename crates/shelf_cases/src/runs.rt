@@ -29,9 +29,12 @@ fn run_row(
     requires { count ≤ most_held }
     ensures { Runs (front count row.bays) queue.old trace.now budget buffer.old result.ran (front count result.row.bays) queue.new buffer.new }
 {
-    let mut lent = row;
-    let ran = shelf_run::run(&mut lent.bays[..count], queue, trace, budget, buffer);
-    RowRan { row: lent, ran }
+    let mut bays = row.bays;
+    let ran = shelf_run::run(&mut bays[..count], queue, trace, budget, buffer);
+    RowRan {
+        row: Row { bays },
+        ran,
+    }
 }
 
 // refusal, count, how, fault, its place
