@@ -1,6 +1,6 @@
 -- An idle phy receives the Open, by the ways of a step: no other way leaves a phy idle beside one.
 use Prim.Native.Nat.{ℕ, ◌<◌}
-use mathlib.Core.Bool.{true, false, false≢true}
+use mathlib.Core.Bool.{false, false≢true}
 use mathlib.Core.List.{List, [], ◌∷◌}
 use mathlib.Core.Logic.{inl, ⊎_elim}
 use mathlib.Core.Path.{◌≡◌, sym, ap, subst, ◌∙◌}
