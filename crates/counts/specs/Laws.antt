@@ -1,5 +1,5 @@
 -- What is promised of counters beyond the contracts. A heading names the file of proofs/.
-use Rattle.std.specs.Prelude.{ℕ, ◌+◌, ◌≤◌, ◌<◌, true, false, List, [], ◌∷◌, ◌↔◌, ◌≡◌, length, get_or}
+use Rattle.std.specs.Prelude.{ℕ, ◌+◌, ◌≤◌, ◌<◌, true, false, List, [], ◌∷◌, ◌↔◌, ◌≡◌, length}
 use Rattle.table.specs.Refusals.{bad_state, bad_event, no_such_phy}
 use Rattle.table.specs.Results.{Determines, DeterminesLent}
 use Rattle.phy_laws.specs.Waiting.{is_answer}

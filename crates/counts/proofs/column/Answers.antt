@@ -1,9 +1,8 @@
 -- `counts::column` meets its contract: each turn passes an answer that is another.
-use Prim.Native.Nat.{ℕ, suc, ◌+◌, ◌-◌, ◌≤◌}
+use Prim.Native.Nat.{ℕ, suc, ◌+◌, ◌≤◌}
 use mathlib.Core.Path.{◌≡◌, sym}
 use native.Mathlib.Nat.{zero-add}
 use native.Mathlib.Omega.{arith}
-use borrow.Author.Rules.{rules}
 use lib.ListN.{drop}
 use Rattle.counts.specs.Names.{column_count, answers, place_in, column_of}
 use Rattle.counts.proofs.Columns.{place_here, place_on}

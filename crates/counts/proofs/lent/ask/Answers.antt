@@ -1,10 +1,7 @@
 -- `counts::lent::ask` meets its contract: where there is such a counter it is read, and else the refusal is asked for.
-use Prim.Native.Nat.{◌+◌, ◌*◌}
-use mathlib.Core.Path.{◌≡◌, refl, sym, ◌∙◌}
+use mathlib.Core.Path.{◌≡◌, refl}
 use native.Mathlib.Omega.{arith}
-use borrow.Author.Rules.{rules}
 use lib.ListN.{length}
-use Rattle.counts.specs.Names.{column_count}
 use Rattle.counts.specs.Lent.{lent_length, lent_asked}
 use Rattle.counts.proofs.Places.{There, lent_there}
 use Rattle.counts.proofs.lent.ask.Goals as goal

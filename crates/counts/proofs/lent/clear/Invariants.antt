@@ -1,12 +1,8 @@
 -- `counts::lent::clear` meets its contract: after each turn one number more in front is zero.
 use Prim.Native.Nat.{◌-◌, ◌≤◌}
-use mathlib.Core.Path.{◌≡◌, refl, sym, ap, ◌∙◌}
-use native.Mathlib.Omega.{arith}
-use borrow.Author.Rules.{rules}
-use borrow.Author.Tests.{eq-eqb, ne_eqb}
-use lib.ListN.{length, take, replicate, length-set}
+use mathlib.Core.Path.{◌≡◌}
+use lib.ListN.{length, take, replicate}
 use Rattle.counts.specs.Lent.{lent_length}
-use Rattle.counts.proofs.Clearing.{front_on, front_whole}
 use Rattle.counts.proofs.lent.clear.Given as goal
 
 abbrev pub invariant-loop-i : goal.invariant-loop-i

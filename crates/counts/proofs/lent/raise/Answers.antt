@@ -1,7 +1,6 @@
 -- `counts::lent::raise` meets its contract: where there is such a counter it alone is set, and one at its ceiling to what it was.
-use mathlib.Core.Path.{◌≡◌, refl, sym, ◌∙◌}
+use mathlib.Core.Path.{◌≡◌, refl, sym}
 use native.Mathlib.Omega.{arith}
-use borrow.Author.Rules.{rules}
 use borrow.Author.Tests.{lt-ltb, le-ltb}
 use lib.ListN.{length}
 use Rattle.counts.specs.Lent.{lent_length, lent_raised}

@@ -1,7 +1,6 @@
 -- `counts::rows::asked` meets its contract: where there is such a counter it is read, and else the refusal is asked for.
-use mathlib.Core.Path.{◌≡◌, refl, sym, ◌∙◌}
+use mathlib.Core.Path.{refl, sym, ◌∙◌}
 use native.Mathlib.Omega.{arith}
-use borrow.Author.Rules.{rules}
 use Rattle.counts.specs.Counters.{asked_of}
 use Rattle.counts.proofs.Places.{There, there}
 use Rattle.counts.proofs.rows.asked.Goals as goal

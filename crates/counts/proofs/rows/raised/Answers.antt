@@ -1,5 +1,5 @@
 -- `counts::rows::raised` meets its contract: where there is such a counter it alone is set, and one at its ceiling to what it was.
-use mathlib.Core.Path.{◌≡◌, refl, sym, ◌∙◌}
+use mathlib.Core.Path.{refl, sym, ◌∙◌}
 use native.Mathlib.Omega.{arith}
 use borrow.Author.Tests.{lt-ltb, le-ltb}
 use Rattle.counts.specs.Counters.{raised_of}
