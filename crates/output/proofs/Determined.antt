@@ -4,10 +4,11 @@ use Prim.Native.Nat.{ℕ}
 use mathlib.Core.List.{List, [], ◌∷◌}
 use mathlib.Core.Logic.{◌⊎◌, inl, inr}
 use mathlib.Core.Path.{◌≡◌, sym, ◌∙◌}
+use native.Mathlib.Omega.{arith}
 use lib.ListN.{length}
 use Rattle.table.specs.Results.{DeterminesLent}
 use Rattle.table.proofs.Laws.{by_test}
-use Rattle.table.proofs.Results.{by_result_lent}
+use Rattle.table.proofs.Results.{by_equation, by_result_lent}
 use Rattle.output.specs.Writing.{newline, more, numbers_text, line, reached, gathered, lost, stays_gathered}
 use Rattle.output.specs.Promises.{Puts, WritesOut, PutsLine}
 use Rattle.output.specs.Laws.{SameUnlessLost, DeterminesUnlessLost, Determined}
@@ -39,4 +40,6 @@ determined =
       write_out = out;
       end_line = ends_line (newline ∷ []);
       put_line = λ first others. ends_line (line first others);
+      fail = by_equation _;
+      read_full = λ r q a b. omega arith;
     }

@@ -1,9 +1,9 @@
 -- What is promised of the functions beyond the contracts. A heading names the file of proofs/.
 use Rattle.std.specs.Prelude.{ℕ, ◌≤◌, List, ◌⊎◌, ◌≡◌, length}
-use Rattle.table.specs.Results.{DeterminesLent}
+use Rattle.table.specs.Results.{Determines, DeterminesLent}
 use Rattle.output.specs.Writing.{lost}
 use Rattle.output.specs.Promises.{Puts, PutsAll, PutsMore, PutsNumbers, WritesOut, PutsLine, EndsLine}
-use Rattle.output.specs.Promises.{PutsNumbersLine}
+use Rattle.output.specs.Promises.{PutsNumbersLine, Loses, ReadsInto}
 
 -- ---- results are determined (proofs/Determined)
 
@@ -16,7 +16,8 @@ abbrev pub DeterminesUnlessLost : (ℕ → List ℕ → Type 0) → Type 0
 DeterminesUnlessLost Contract =
     (r q : ℕ) (after later : List ℕ) → Contract r after → Contract q later → SameUnlessLost r q × (after ≡ later)
 
--- two results that a function may give coincide, and so do the buffers that it may leave
+-- two results that a function may give coincide, and so do the buffers that it may leave; of `read_full` where there is
+-- no room, since nothing is read
 pub record Determined : Type 0 where
   pub put_all : (bytes before : List ℕ) (n : ℕ) → DeterminesLent (PutsAll bytes before n)
   pub put_more : (numbers before : List ℕ) (n : ℕ) → DeterminesLent (PutsMore numbers before n)
@@ -26,6 +27,8 @@ pub record Determined : Type 0 where
   pub end_line : (before : List ℕ) (n : ℕ) → DeterminesUnlessLost (EndsLine before n)
   pub put_line :
       (first : ℕ) (others before : List ℕ) (n : ℕ) → DeterminesUnlessLost (PutsNumbersLine first others before n)
+  pub fail : Determines Loses
+  pub read_full : Determines (ReadsInto 0)
 
 -- ---- a write that failed stays told (proofs/Places)
 

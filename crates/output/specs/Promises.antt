@@ -26,6 +26,14 @@ PutsNumbers first others before n r after = Puts (numbers_text first others) bef
 abbrev pub WritesOut : (n least r : ℕ) → Type 0
 WritesOut n least r = pick (stays_gathered n least) (r ≡ n) ((r ≡ 0) ⊎ (r ≡ lost))
 
+-- `fail`: the place that no buffer has
+abbrev pub Loses : (r : ℕ) → Type 0
+Loses r = r ≡ lost
+
+-- `read_full` into a buffer with this much room: no contract can say how much a read gives
+abbrev pub ReadsInto : (room r : ℕ) → Type 0
+ReadsInto room r = r ≤ room
+
 -- bytes that end a line: what is gathered is written once there is enough of it
 pub record PutsLine (bytes before : List ℕ) (n r : ℕ) (after : List ℕ) : Type 0 where
   pub there : WritesOut (reached (length before) n (length bytes)) gathered r

@@ -127,10 +127,10 @@ fn after_write(rt: &impl Eprint, written: std::io::Result<()>) -> usize
     match written {
         Ok(()) => 0,
         Err(error) => {
-            if error.kind() != ErrorKind::BrokenPipe {
-                fail(rt, "not all was written to standard output", &error);
+            if error.kind() == ErrorKind::BrokenPipe {
+                return LOST;
             }
-            LOST
+            fail(rt, "not all was written to standard output", &error)
         }
     }
 }

@@ -1,6 +1,5 @@
 -- `replies::event_reply` meets its contract: each arm is a line of the definition.
 use mathlib.Core.Path.{refl}
-use borrow.Author.Rules.{rules}
 use Rattle.trace.specs.Reading.{tells}
 use Rattle.replies.specs.Replies.{event_reply}
 use Rattle.replies.proofs.Says.{as_matched}

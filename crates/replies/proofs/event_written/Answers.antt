@@ -1,6 +1,5 @@
 -- `replies::event_written` meets its contract: each arm is a line of the definition.
 use mathlib.Core.Path.{refl}
-use borrow.Author.Rules.{rules}
 use Rattle.trace.specs.Writing.{tells_written}
 use Rattle.replies.specs.Replies.{event_written}
 use Rattle.replies.proofs.Says.{as_matched}

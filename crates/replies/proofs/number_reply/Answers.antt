@@ -1,6 +1,5 @@
 -- `replies::number_reply` meets its contract: each arm is a line of the definition.
 use mathlib.Core.Path.{refl}
-use borrow.Author.Rules.{rules}
 use Rattle.number.specs.Reading.{tells}
 use Rattle.replies.specs.Replies.{number_reply}
 use Rattle.replies.proofs.Says.{as_matched}

@@ -1,5 +1,4 @@
 -- `replies::run` meets its contract: what stopped the run is replied, and all else is the run's.
-use borrow.Author.Rules.{rules}
 use Rattle.replies.proofs.Says.{run_says}
 use Rattle.replies.proofs.run.Goals as goal
 

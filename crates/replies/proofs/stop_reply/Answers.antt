@@ -1,5 +1,4 @@
 -- `replies::stop_reply` meets its contract: each arm is a line of the definition.
-use borrow.Author.Rules.{rules}
 use Rattle.run.specs.Running.{tells_stop}
 use Rattle.replies.specs.Replies.{stop_reply}
 use Rattle.replies.proofs.Says.{as_matched}

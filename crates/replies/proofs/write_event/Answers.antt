@@ -1,6 +1,5 @@
 -- `replies::write_event` meets its contract: what is told is replied, and the bytes are those written.
 use mathlib.Core.Path.{ap, ◌∙◌}
-use borrow.Author.Rules.{rules}
 use Rattle.replies.specs.Replies.{event_written}
 use Rattle.replies.proofs.write_event.Goals as goal
 

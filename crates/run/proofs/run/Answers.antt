@@ -1,6 +1,5 @@
 -- `run::run` meets its contract: valid, then room, then `take_events` does the rest.
 use mathlib.Core.Path.{sym, ◌∙◌}
-use borrow.Author.Rules.{rules}
 use Rattle.run.proofs.Loop.{as_valid, not_valid, no_room_lem, with_room}
 use Rattle.run.proofs.run.Goals as goal
 

@@ -1,9 +1,6 @@
 -- `run::take_events` meets its contract: each turn goes on to a stamp and takes it, and stops where the events before it stop.
-use Prim.Native.Nat.{◌-◌}
 use native.Mathlib.Omega.{arith}
-use borrow.Author.Rules.{rules}
-use Rattle.run.specs.Stages.{Stage}
-use Rattle.run.proofs.Loop.{stage_start, stage_ready, as_long, stamp_left, stamp_room, stamp_small, stamp_on, no_more}
+use Rattle.run.proofs.Loop.{stage_start, stage_ready, stamp_left, stamp_room, stamp_small, stamp_on, no_more}
 use Rattle.run.proofs.take_events.Goals as goal
 
 pub loop-counter-init : goal.loop-counter-init
