@@ -1,5 +1,5 @@
 -- `shelf_listing::next_line` meets its contract: each progress has its line.
-use Rattle.std.proofs.Common.{refl, arith, rules}
+use Rattle.std.proofs.Common.{refl, arith}
 use Rattle.lines.specs.Listing.{line_at}
 use Rattle.lines.proofs.Moves.{stays}
 use Rattle.shelf_listing.proofs.next_line.Goals as goal

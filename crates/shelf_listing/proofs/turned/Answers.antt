@@ -1,5 +1,5 @@
 -- `shelf_listing::turned` meets its contract: the row is what the step left in front and what was behind, and the columns are read off what it left.
-use Rattle.std.proofs.Common.{◌≡◌, ℕ, List, ◌++◌, length, sym, ap, ◌∙◌, ap₂, take-append-drop, rules}
+use Rattle.std.proofs.Common.{◌≡◌, ℕ, List, ◌++◌, length, sym, ap, ◌∙◌, ap₂, take-append-drop}
 use Rattle.bay.specs.declared.Bay.{Bay}
 use Rattle.queue.specs.Lent.{queue_in}
 use Rattle.queue.specs.declared.Judgement.{Judgement}
