@@ -138,7 +138,7 @@ by_read_lem n s place go (shelf_event e next) q p rest v =
     goes_so p rest v e (read_known s place e next q) (going n s next)
     ∙ ap (one_more (byte_of (step_on most_phys p e))) (go next (step_on most_phys p e).next rest (stays_valid most_phys p e.number e.event v))
 by_read_lem n s place go shelf_end q p rest v = refl
-by_read_lem n s place go (shelf_refused k at) q p rest v = refl
+by_read_lem n s place go (shelf_refused k _) q p rest v = refl
 
 pub goes : (n : ℕ) (s : List ℕ) (place : ℕ) → Goes n s place
 unfolding going taking

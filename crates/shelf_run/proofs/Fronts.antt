@@ -24,28 +24,11 @@ next (suc i) (x ∷ news) (y ∷ olds) d l m = ap (λ (zs : List Bay). x ∷ zs)
 pub longer : (i : ℕ) (news olds : List Bay) (d : Bay) → i < length news → i < length olds → set (fronted i news olds) i (get_or news i d) ≡ fronted (i + 1) news olds
 longer i news olds d l m = rw add-one (next i news olds d l m)
 
--- and the list stays as long
-pub length_fronted : (i : ℕ) (news olds : List Bay) → i ≤ length news → i ≤ length olds → length (fronted i news olds) ≡ length olds
-length_fronted zero news olds l m = refl
-length_fronted (suc i) [] olds l m = absurd (not-suc-le-zero l)
-length_fronted (suc i) (x ∷ news) [] l m = absurd (not-suc-le-zero m)
-length_fronted (suc i) (x ∷ news) (y ∷ olds) l m = ap suc (length_fronted i news olds (le_of_suc-le-suc l) (le_of_suc-le-suc m))
+picked : (n : ℕ) (b : Bool) → ltb n most_phys ≡ b → (pick b n most_phys ≤ n) × (pick b n most_phys ≤ most_phys)
+picked n true is = let l : n < most_phys = ltb-true n most_phys is in (omega arith, omega arith)
+picked n false is = let l : most_phys ≤ n = ltb-false n most_phys is in (omega arith, omega arith)
 
--- how many records a table has
-abbrev pub most : ℕ
-most = most_phys
-
-picked : (n : ℕ) (b : Bool) → ltb n most ≡ b → (pick b n most ≤ n) × (pick b n most ≤ most)
-picked n true is = let l : n < most = ltb-true n most is in (omega arith, omega arith)
-picked n false is = let l : most ≤ n = ltb-false n most is in (omega arith, omega arith)
-
-fits : (n : ℕ) → (fitting n ≤ n) × (fitting n ≤ most)
+-- as many as fit are within the row, and within a table
+pub fits : (n : ℕ) → (fitting n ≤ n) × (fitting n ≤ most_phys)
 unfolding fitting
-fits n = picked n (ltb n most) refl
-
--- what is within as many as fit is within the row, and within a table
-pub in_row : (n i : ℕ) → i ≤ fitting n → i ≤ n
-in_row n i l = omega (arith, (fits n).0)
-
-pub in_most : (n i : ℕ) → i ≤ fitting n → i ≤ most
-in_most n i l = omega (arith, (fits n).1)
+fits n = picked n (ltb n most_phys) refl

@@ -3,7 +3,6 @@ use Prim.Native.Nat.{ℕ, suc, ◌≤◌}
 use mathlib.Core.Bool.{Bool, true, false}
 use mathlib.Core.List.{List, [], ◌∷◌, map, ◌++◌, map-append, append-nil}
 use mathlib.Core.Path.{◌≡◌, refl, sym, ap, ◌∙◌}
-use native.Mathlib.Nat.{le_refl}
 use native.Mathlib.Omega.{arith}
 use borrow.Author.Tests.{lt-ltb, le-ltb}
 use lib.Dec.{leb}
@@ -32,7 +31,7 @@ use Rattle.shelf_run.specs.Running.{taking, bytes_of, unset, started, sound_lent
 use Rattle.shelf_run.specs.Stages.{empty, all_unset, Went, going, gone_of, queue_after_run, buffer_after_run}
 use Rattle.shelf_run.specs.Promises.{Runs}
 use Rattle.shelf_run.specs.declared.Gone.{Gone}
-use Rattle.shelf_run.proofs.Fronts.{in_row}
+use Rattle.shelf_run.proofs.Fronts.{fits}
 use Rattle.shelf_run.proofs.Defined.{goes}
 
 -- ---- rows and tables
@@ -42,7 +41,7 @@ pub put_back : (row bays : List Bay) → stored row (loaded row bays) ≡ row
 unfolding stored loaded
 put_back row bays =
     let n : ℕ = fitting (length row) in
-    let l : length (take n row) ≡ n = length-take-le n row (in_row (length row) n (le_refl n)) in
+    let l : length (take n row) ≡ n = length-take-le n row (fits (length row)).0 in
     ap (λ (x : List Bay). x ++ drop n row) (take_at (take n row) (drop n bays) n l) ∙ take-append-drop n row
 
 module _ (row : List Bay) (few : length row ≤ most_phys) where

@@ -1,7 +1,6 @@
 pub mod Fronts
 pub mod Loop
 pub mod Unset
-pub mod Over
 pub mod Defined
 pub mod InPlace
 pub mod Determined

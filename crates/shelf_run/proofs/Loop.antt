@@ -1,35 +1,26 @@
 -- The stages of a run over a table: what is left of the trace, gone through from here, gives the whole. An event taken leads from one stage to the next, and each way to stop is where the rest stops.
 use Prim.Native.Nat.{ℕ, zero, suc, ◌+◌, ◌-◌, ◌≤◌, ◌<◌}
-use mathlib.Core.Bool.{true, ◌&&◌}
+use mathlib.Core.Bool.{true}
 use mathlib.Core.List.{List, [], ◌∷◌}
 use mathlib.Core.Path.{◌≡◌, refl, sym, ap, subst, ◌∙◌}
 use native.Mathlib.Nat.{le_of_suc-le-suc, not-suc-le-zero}
 use native.Mathlib.Numerals.{add-one}
 use native.Mathlib.Omega.{arith}
 use borrow.Author.Tests.{ltb-true}
-use lib.Dec.{eqb, ltb}
+use lib.Dec.{ltb}
 use lib.ListN.{length, set, get_or, length-set}
 use lib.Seq.{sets}
 use Rattle.table.specs.Choice.{pick}
 use Rattle.table.proofs.Laws.{by_pick, parts}
-use Rattle.event.specs.Names.{tx_open}
-use Rattle.event.specs.Table.{open_of}
-use Rattle.event.specs.declared.Event.{Event}
 use Rattle.event.specs.declared.ShelfEvent.{ShelfEvent}
 use Rattle.bay.specs.State.{fresh_bay}
-use Rattle.bay.specs.Step.{move_of}
 use Rattle.bay.specs.declared.Bay.{Bay}
-use Rattle.bay.specs.declared.Stepped.{Stepped as BayStepped}
-use Rattle.queue.proofs.Long.{stay_long}
 use Rattle.shelf.specs.Reading.{ToldShelf, shelf_event, shelf_end, shelf_refused, read_shelf}
 use Rattle.run.specs.Running.{Halt, at_end, at_fault}
-use Rattle.queue.specs.Lent.{most_waiting}
 use Rattle.port.specs.Names.{most_phys}
-use Rattle.port.specs.Step.{reports_of, is_ports}
 use Rattle.port.specs.Promises.{Takes}
 use Rattle.port.specs.Stages as port
 use Rattle.port.specs.Stages.{some_free, concerned, hand_on, on_moved, on_port, taken_of}
-use Rattle.port.specs.declared.Reports.{Reports}
 use Rattle.port.specs.declared.Standing.{Standing}
 use Rattle.port.specs.declared.Taken.{Taken}
 use Rattle.shelf_run.specs.Running.{spent_at, ran}

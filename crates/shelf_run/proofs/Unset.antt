@@ -1,7 +1,7 @@
 -- Records changed one after the other: those before the place are changed, and the others as they were.
 use Prim.Native.Nat.{ℕ, zero, suc, ◌+◌}
 use mathlib.Core.List.{List, [], ◌∷◌, map}
-use mathlib.Core.Path.{◌≡◌, refl, ap, ◌∙◌}
+use mathlib.Core.Path.{◌≡◌, refl, ap}
 use native.Mathlib.Numerals.{add-one}
 use lib.ListN.{get_or, set}
 use Rattle.bay.specs.declared.Bay.{Bay}
@@ -16,7 +16,3 @@ next f (b ∷ bays) (suc i) d = ap (λ (rest : List Bay). f b ∷ rest) (next f 
 -- one more is changed
 pub changed_on : (f : Bay → Bay) (bays : List Bay) (i : ℕ) (d : Bay) {now : List Bay} {b : Bay} → now ≡ fronted i (map f bays) bays → b ≡ f (get_or now i d) → set now i b ≡ fronted (i + 1) (map f bays) bays
 changed_on f bays i d e g = rw (g, e, add-one) (next f bays i d)
-
--- all of them are
-pub all_changed : (f : Bay → Bay) (bays : List Bay) (i n : ℕ) {now : List Bay} → now ≡ fronted i (map f bays) bays → i ≡ n → now ≡ fronted n (map f bays) bays
-all_changed f bays i n e z = e ∙ ap (λ (k : ℕ). fronted k (map f bays) bays) z

@@ -1,13 +1,10 @@
 -- `shelf_run::events::all_unset` meets its contract: those before the place are unset, and the others as they were.
-use native.Mathlib.Omega.{arith}
 use Prim.Native.Nat.{◌-◌, ◌≤◌}
 use mathlib.Core.List.{map}
-use mathlib.Core.Path.{◌≡◌, refl}
-use borrow.Author.Rules.{rules}
+use mathlib.Core.Path.{◌≡◌}
 use Rattle.port.specs.Names.{most_phys}
 use Rattle.shelf_run.specs.Running.{unset}
 use Rattle.shelf_run.specs.Rows.{fronted}
-use Rattle.shelf_run.proofs.Unset.{changed_on, all_changed}
 use Rattle.shelf_run.proofs.events.all_unset.Given as goal
 
 abbrev pub invariant-loop-i : goal.invariant-loop-i

@@ -1,5 +1,4 @@
 -- `shelf_run::events::byte_in` meets its contract: its test is the definition's.
-use native.Mathlib.Omega.{arith}
 use borrow.Author.Tests.{eq-eqb, ne_eqb}
 use Rattle.run.specs.Running.{byte_for}
 use Rattle.shelf_run.proofs.events.byte_in.Goals as goal

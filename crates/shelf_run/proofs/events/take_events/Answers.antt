@@ -15,9 +15,9 @@ loop-count-preserved c =
     let bays = c.loop-count.table.bays in
     let at = c.concerned-at.result in
     let own : c.if-held.own ≡ pick (in_use st at) (get_or bays at fresh_bay) fresh_bay
-        = elim c.if-held.branch [ then-held w ↦ w.own-is ∙ own_held c.loop-count.invariant at w.if-held.true _ | else-held w ↦ w.own-is ∙ w.fresh-own.ensures ∙ rw w.if-held.false refl ] in
+    = elim c.if-held.branch [ then-held w ↦ w.own-is ∙ own_held c.loop-count.invariant at w.if-held.true _ | else-held w ↦ w.own-is ∙ w.fresh-own.ensures ∙ rw w.if-held.false refl ] in
     let row : c.if-held-2.table.bays ≡ puts st bays at c.take-taken.result.bay
-        = elim c.if-held-2.branch [ then-held-2 w ↦ ap (λ (t : Table). t.bays) w.table-is ∙ rw w.if-held-2.true refl | else-held-2 w ↦ ap (λ (t : Table). t.bays) w.table-is ∙ rw w.if-held-2.false refl ] in
+    = elim c.if-held-2.branch [ then-held-2 w ↦ ap (λ (t : Table). t.bays) w.table-is ∙ rw w.if-held-2.true refl | else-held-2 w ↦ ap (λ (t : Table). t.bays) w.table-is ∙ rw w.if-held-2.false refl ] in
     stage_next c.loop-count.invariant c.loop-count-test.true (sym c.in-Event.ensures) at c.concerned-at.ensures c.if-held.own own c.take-taken.result _ c.take-taken.ensures _ c.byte_in.ensures _ row
 
 pub returns-in-End : goal.returns-in-End
