@@ -1,15 +1,15 @@
 -- The stages of a run over a table: what is left of the trace, gone through from here, gives the whole. An event taken leads from one stage to the next, and each way to stop is where the rest stops.
 use Prim.Native.Nat.{ℕ, zero, suc, ◌+◌, ◌-◌, ◌≤◌, ◌<◌}
 use mathlib.Core.Bool.{true}
-use mathlib.Core.List.{List, [], ◌∷◌}
+use mathlib.Core.List.{List}
 use mathlib.Core.Path.{◌≡◌, refl, sym, ap, subst, ◌∙◌}
-use native.Mathlib.Nat.{le_of_suc-le-suc, not-suc-le-zero}
 use native.Mathlib.Numerals.{add-one}
 use native.Mathlib.Omega.{arith}
 use borrow.Author.Tests.{ltb-true}
 use lib.Dec.{ltb}
 use lib.ListN.{length, set, get_or, length-set}
 use lib.Seq.{sets}
+use Rattle.std.proofs.lemmas.List.{get_or_default}
 use Rattle.table.specs.Choice.{pick}
 use Rattle.table.proofs.Laws.{by_pick, parts}
 use Rattle.event.specs.declared.ShelfEvent.{ShelfEvent}
@@ -27,12 +27,6 @@ use Rattle.shelf_run.specs.Running.{spent_at, ran}
 use Rattle.shelf_run.specs.Stages.{in_use, Went, rests, byte_in, takes, puts, goes_on, by_read, going, gone}
 use Rattle.shelf_run.specs.Promises.{Through}
 use Rattle.shelf_run.specs.declared.Gone.{Gone}
-
--- what a list has at a place does not hang on what stands for the places that it has not
-any_else : (l : List Bay) (i : ℕ) (a b : Bay) → i < length l → get_or l i a ≡ get_or l i b
-any_else [] i a b h = absurd (not-suc-le-zero h)
-any_else (x ∷ l) zero a b h = refl
-any_else (x ∷ l) (suc i) a b h = any_else l i a b (le_of_suc-le-suc h)
 
 -- a record in use is one of the table
 in_table : (st : Standing) (at : ℕ) → in_use st at ≡ true → at < most_phys
@@ -104,7 +98,7 @@ module _ {whole : Went} {s : List ℕ} {budget : ℕ} {before : List ℕ} {st : 
 
   -- the record of an event, whether it is in use or not, and the records once it is put back
   pub own_held : (at : ℕ) → in_use st at ≡ true → (other : Bay) → get_or bays at other ≡ pick (in_use st at) (get_or bays at fresh_bay) fresh_bay
-  own_held at u other = rw u (any_else bays at other fresh_bay (omega (arith, in_table st at u, w.tabled)))
+  own_held at u other = rw u (get_or_default bays at other fresh_bay (omega (arith, in_table st at u, w.tabled)))
 
   -- nothing more is taken
   pub stopped_at : {halt : Halt} → going w.left s place st bays queue ≡ rests bays queue halt → (r : Gone) → r ≡ gone bays (ran count halt) → Through whole before r queue buffer
