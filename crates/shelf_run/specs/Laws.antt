@@ -1,5 +1,6 @@
 -- What is promised of a run over a shelf trace beyond its contract. A heading names the files of proofs/.
-use Rattle.std.specs.Prelude.{ℕ, ◌+◌, ◌≤◌, ◌<◌, true, false, List, [], ◌∷◌, ◌++◌, map, ◌↔◌, ◌≡◌, length, take, drop, replicate}
+use Rattle.std.specs.Prelude.{ℕ, ◌+◌, ◌≤◌, ◌<◌, true, false, List, [], ◌∷◌, ◌++◌, map, ◌↔◌, ◌≡◌, length, take, drop}
+use Rattle.std.specs.Prelude.{replicate}
 use Rattle.table.specs.Refusals.{bad_state, bad_event, no_room}
 use Rattle.table.specs.Results.{DeterminesLent}
 use Rattle.event.specs.Names.{tx_open}

@@ -1,6 +1,7 @@
 -- How the code goes through a run: with the records in a table and where the port stands carried along. What a run is
 -- stands in Running; here is what the code's own functions promise each other.
-use Rattle.std.specs.Prelude.{ℕ, zero, suc, ◌%◌, Bool, ◌&&◌, List, [], ◌∷◌, map, leb, ltb, length, set, get_or, replicate}
+use Rattle.std.specs.Prelude.{ℕ, zero, suc, ◌%◌, Bool, ◌&&◌, List, [], ◌∷◌, map, leb, ltb, length, set, get_or}
+use Rattle.std.specs.Prelude.{replicate}
 use Rattle.std.proofs.lemmas.List.Edits.{sets}
 use Rattle.table.specs.Choice.{pick}
 use Rattle.table.specs.Refusals.{bad_state, no_room}
@@ -68,7 +69,8 @@ goes_on rest s bays at c =
     (rest c.taken.standing (puts s bays at c.taken.bay) c.queue)
 
 -- what is read at a place with budget left
-abbrev pub by_read : ToldShelf → Standing → List Bay → List ℕ → ((next : ℕ) → Standing → List Bay → List ℕ → Went) → Went
+abbrev pub by_read :
+    ToldShelf → Standing → List Bay → List ℕ → ((next : ℕ) → Standing → List Bay → List ℕ → Went) → Went
 by_read (shelf_event e next) s bays queue rest =
     goes_on (rest next) s bays (concerned s.free e.number) (takes s bays queue e (concerned s.free e.number))
 by_read shelf_end s bays queue rest = rests bays queue at_end
