@@ -1,4 +1,3 @@
-pub mod Rows
 pub mod Alike
 pub mod Whole
 pub mod Outcome
