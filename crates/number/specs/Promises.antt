@@ -12,7 +12,7 @@ pub record Fewer (a b r : ℕ) : Type 0 where
   pub second : r ≤ b
   pub one : r < a → b ≤ r
 
--- `read_number_lem` of the slice s at a place
+-- `read_number` of the slice s at a place
 abbrev pub ReadsNumber : List ℕ → ℕ → NumberRead → Type 0
 ReadsNumber s place r = tells r ≡ read_number s place
 

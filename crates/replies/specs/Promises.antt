@@ -16,7 +16,7 @@ use Rattle.replies.specs.declared.EventReply.{EventReply}
 use Rattle.replies.specs.declared.StopReply.{StopReply}
 use Rattle.replies.specs.declared.RunReply.{RunReply}
 
--- `read_number_lem` of the slice s at a place
+-- `read_number` of the slice s at a place
 abbrev pub ReadsNumber : List ℕ → ℕ → NumberReply → Type 0
 ReadsNumber s place r = r ≡ number_reply place (read_number s place)
 
