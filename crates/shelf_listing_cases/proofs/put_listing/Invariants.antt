@@ -2,5 +2,5 @@
 use Rattle.lines.specs.Laws.{lines_left}
 use Rattle.shelf_listing_cases.proofs.put_listing.Given as goal
 
-abbrev pub decreases-loop : goal.decreases-loop
-decreases-loop g l = lines_left l.trace l.progress
+abbrev pub decreases-loop-next : goal.decreases-loop-next
+decreases-loop-next g l = lines_left l.trace l.progress
