@@ -1,4 +1,4 @@
--- Demand 3 with stamps: event by event a bay does what its phy does on the spelled_out list, of which demand 3 holds.
+-- Demand 3 with stamps: event by event a bay does what its phy does on the spelled-out list, of which demand 3 holds.
 use Prim.Native.Nat.{ℕ, zero, suc, ◌+◌, ◌≤◌}
 use mathlib.Core.Bool.{Bool, true, false}
 use mathlib.Core.List.{List, [], ◌∷◌, ◌++◌, append-nil, append_assoc}

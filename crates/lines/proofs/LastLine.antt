@@ -19,7 +19,7 @@ module _ {S E : Type 0} (m : Listable S E) (on : ReadsOn m) where
   ends : {s : List ℕ} {place count : ℕ} {b : S} {bytes : List ℕ} {es : List E} → place ≤ length s → ReadsAll m.reads s place es → ListsFrom m s place count b bytes
       → EndsWith bytes (end_line (length s) (count + length es))
   ends {s} {place} {count} h (laws.ended e) (ended f) =
-      record { front = []; whole = ap₂ end_line (omega (arith, on.at_end_lem s place e)) (omega arith) }
+      record { front = []; whole = ap₂ end_line (omega (arith, on.at_end s place e)) (omega arith) }
   ends h (laws.ended e) (stopped f) = let w = sym e ∙ f in apart cc
   ends h (laws.ended e) (taken f l) = let w = sym e ∙ f in apart cc
   ends h (laws.taken e r) (ended f) = let w = sym e ∙ f in apart cc

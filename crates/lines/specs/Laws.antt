@@ -68,7 +68,7 @@ Stays S =
 pub record ReadsOn {S E : Type 0} (m : Listable S E) : Type 0 where
   pub forward : (s : List ℕ) (place : ℕ) (e : E) (next : ℕ) → m.reads s place ≡ found e next → place < next
   pub within : (s : List ℕ) (place : ℕ) (e : E) (next : ℕ) → m.reads s place ≡ found e next → next ≤ length s
-  pub at_end_lem : (s : List ℕ) (place : ℕ) → m.reads s place ≡ nothing → length s ≤ place
+  pub at_end : (s : List ℕ) (place : ℕ) → m.reads s place ≡ nothing → length s ≤ place
 
 -- how many lines may still come
 abbrev pub lines_left : List ℕ → Progress → ℕ

@@ -27,7 +27,7 @@ reads_on =
     record {
       forward = λ s place e next h. (read_moves_on s place e next (found_event (read_event s place) e next h)).forward;
       within = λ s place e next h. (read_moves_on s place e next (found_event (read_event s place) e next h)).within;
-      at_end_lem = λ s place h. (end_exactly s place).0 (found_end (read_event s place) h);
+      at_end = λ s place h. (end_exactly s place).0 (found_end (read_event s place) h);
     }
 
 pub phy_listing : PhyListing

@@ -33,11 +33,11 @@ port_reads_on =
     record {
       forward = λ s place e next h. (read_moves_on s place e next (found_event (read_shelf s place) e next h)).forward;
       within = λ s place e next h. (read_moves_on s place e next (found_event (read_shelf s place) e next h)).within;
-      at_end_lem = λ s place h. (end_exactly s place).0 (found_end (read_shelf s place) h);
+      at_end = λ s place h. (end_exactly s place).0 (found_end (read_shelf s place) h);
     }
 
 pub reads_on : ReadsOn of_shelf
-reads_on = record { forward = port_reads_on.forward; within = port_reads_on.within; at_end_lem = port_reads_on.at_end_lem }
+reads_on = record { forward = port_reads_on.forward; within = port_reads_on.within; at_end = port_reads_on.at_end }
 
 pub port_listing : PortListing
 port_listing = listing_holds of_port port_reads_on
