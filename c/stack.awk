@@ -5,7 +5,7 @@
 # A function is followed from its first instruction along every jump, with the depth of the stack at each: the return
 # address, what is pushed, the frame, and what is touched below the stack pointer. A call adds what the called function
 # comes to; a jump into another function goes on there, at the same depth. What cannot be followed so is a fault, but
-# for two functions of the C library: of them it is taken on trust that they keep to what BELOW allows.
+# for three functions of the C library: of them it is taken on trust that they keep to what BELOW allows.
 
 BEGIN {
     WORD = 8
@@ -13,6 +13,7 @@ BEGIN {
     BELOW = 128
     trusted["memcpy"]
     trusted["memmove"]
+    trusted["memset"]
 }
 
 # ---- what objdump says
@@ -172,7 +173,7 @@ function written(i,    n, operand) {
 function byTable(i,    goal, base, j, operand) {
     goal = register(args[i])
     for (j = i - 1; !((j + 1) in landed) && belongs[j] == belongs[i] && op[j] !~ /^(call|j|loop|ret)/; j--) {
-        if (base && written(j) == goal) return op[j] == "movslq" && args[j] ~ ("^\\(%" base ",%[a-z0-9]+,4\\),")
+        if (base && written(j) == goal) return op[j] == "movslq" && args[j] ~ ("^(0x0)?\\(%" base ",%[a-z0-9]+,4\\),")
         if (base && written(j) == base) return 0
         if (written(j) != goal) continue
         split(args[j], operand, ",")

@@ -21,8 +21,8 @@
  *     touches it until the call returns.
  *
  * No function keeps a pointer, allocates, or has a state of its own, so any thread may call any of them. Those that
- * write an event or a number need at most 256 bytes of stack, their arguments among them; those of a port up to 6,300.
- * The archives of a port take memcpy and memmove from the C library; the call that first finds one of them, in a
+ * write an event or a number need at most 256 bytes of stack, their arguments among them; those of a port up to 8,600.
+ * The archives of a port take memcpy, memmove and memset from the C library; the call that first finds one, in a
  * program that is linked neither with -static nor with -Wl,-z,now, takes some 2,000 bytes more.
  */
 #ifndef LOURAVELA_H
