@@ -1,5 +1,8 @@
 -- The numbers of refusal, in the paper's order. 0 says that nothing is refused.
 use Rattle.std.specs.Prelude.{ℕ}
+use Rattle.table.specs.declared.Refusal.{Refusal}
+use Rattle.table.specs.declared.Refusal.TheVariants.{BadState, BadEvent, Busy, NothingPending, NotConnected, WrongProtocol}
+use Rattle.table.specs.declared.Refusal.TheVariants.{Cut, Overlong, TooLarge, NoRoom, QueueFull, NoSuchPhy}
 
 -- the state handed in is not a valid one
 abbrev pub bad_state : ℕ
@@ -48,3 +51,18 @@ queue_full = 11
 -- a number that is neither the port's nor below the count of phys
 abbrev pub no_such_phy : ℕ
 no_such_phy = 12
+
+-- the number of each
+abbrev pub number_of : Refusal → ℕ
+number_of BadState = bad_state
+number_of BadEvent = bad_event
+number_of Busy = busy
+number_of NothingPending = nothing_pending
+number_of NotConnected = not_connected
+number_of WrongProtocol = wrong_protocol
+number_of Cut = cut
+number_of Overlong = overlong
+number_of TooLarge = too_large
+number_of NoRoom = no_room
+number_of QueueFull = queue_full
+number_of NoSuchPhy = no_such_phy

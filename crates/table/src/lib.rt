@@ -1,7 +1,42 @@
-// What every machine shares: the paper's numbers of refusal, and those of a flag. How a definition
-// chooses, by a test or by the row of a table, is in specs/Choice.antt.
+// What every machine shares: why an event, a state or bytes are refused, with the paper's numbers, and the numbers
+// of a flag. How a definition chooses, by a test or by the row of a table, is in specs/Choice.antt.
 #![tactic(auto)]
 
+ghost use Rattle.std.specs.Prelude.{◌≡◌};
+ghost use Rattle.table.specs.Refusals.{number_of};
+
+// A refusal; `as u64` gives the paper's number.
+#[derive(Clone, Copy, Debug, PartialEq, Eq)]
+pub enum Refusal {
+    BadState = 1,
+    BadEvent = 2,
+    Busy = 3,
+    NothingPending = 4,
+    NotConnected = 5,
+    WrongProtocol = 6,
+    Cut = 7,
+    // No longer given: numbers may be padded. The number stays taken.
+    Overlong = 8,
+    TooLarge = 9,
+    NoRoom = 10,
+    QueueFull = 11,
+    NoSuchPhy = 12,
+}
+
+impl From<Refusal> for u64 {
+    ghost from_gives = { λ refusal n. n ≡ number_of refusal };
+
+    fn from(refusal: Refusal) -> u64 {
+        refusal as u64
+    }
+}
+
+// A flag; any other number is none.
+pub const OFF: u64 = 0;
+
+pub const ON: u64 = 1;
+
+// The same as numbers: these go once no crate names them.
 pub const BAD_STATE: u64 = 1;
 
 pub const BAD_EVENT: u64 = 2;
@@ -16,7 +51,6 @@ pub const WRONG_PROTOCOL: u64 = 6;
 
 pub const CUT: u64 = 7;
 
-// No longer given: numbers may be padded. The number stays taken.
 pub const OVERLONG: u64 = 8;
 
 pub const TOO_LARGE: u64 = 9;
@@ -26,8 +60,3 @@ pub const NO_ROOM: u64 = 10;
 pub const QUEUE_FULL: u64 = 11;
 
 pub const NO_SUCH_PHY: u64 = 12;
-
-// A flag; any other number is none.
-pub const OFF: u64 = 0;
-
-pub const ON: u64 = 1;
