@@ -1,8 +1,8 @@
 -- The paper's numbers of dword synchronization.
 use Rattle.std.specs.Prelude.{ℕ}
 use Rattle.dws.specs.declared.State.{State}
-use Rattle.dws.specs.declared.State.TheVariants.{AcquireSync, Valid1, Valid2, SyncAcquired, Lost1, Lost1Recovered, Lost2}
-use Rattle.dws.specs.declared.State.TheVariants.{Lost2Recovered, Lost3, Lost3Recovered}
+use Rattle.dws.specs.declared.State.TheVariants.{AcquireSync, Valid1, Valid2, SyncAcquired, Lost1, Lost1Recovered}
+use Rattle.dws.specs.declared.State.TheVariants.{Lost2, Lost2Recovered, Lost3, Lost3Recovered}
 use Rattle.dws.specs.declared.Event.{Event}
 use Rattle.dws.specs.declared.Event.TheVariants.{InvalidDword, DataDword, Primitive, Restart}
 use Rattle.dws.specs.declared.Report.{Report}

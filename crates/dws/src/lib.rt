@@ -3,7 +3,8 @@
 
 ghost use Rattle.std.specs.Prelude.{◌≡◌};
 ghost use Rattle.dws.specs.Names.{number_of_state, number_of_event, number_of_report};
-ghost use Rattle.dws.specs.Step.{StateAt, EventAt, Taken, after_invalid, after_valid, after_primitive, next_state, report_of};
+ghost use Rattle.dws.specs.Step.{StateAt, EventAt, Taken};
+ghost use Rattle.dws.specs.Step.{after_invalid, after_valid, after_primitive, next_state, report_of};
 ghost use Rattle.dws.specs.Promises.{StartsFresh, Steps};
 
 use table::Refusal;
@@ -149,10 +150,10 @@ pub fn fresh() -> u64
 
 // A restart enters the first state too, and reports nothing.
 #[tactic(auto, unfolding(crate::specs::Step::report_of))]
-fn report_of(state: State, event: Event, next: State) -> Report
-    ensures { number_of_report result ≡ report_of (number_of_state state) (number_of_event event) (number_of_state next) }
+fn report_of(from: State, event: Event, to: State) -> Report
+    ensures { number_of_report result ≡ report_of (number_of_state from) (number_of_event event) (number_of_state to) }
 {
-    match (state, event, next) {
+    match (from, event, to) {
         (State::Valid2, _, State::SyncAcquired) => Report::Acquired,
         (State::Lost3 | State::Lost3Recovered, Event::InvalidDword, State::AcquireSync) =>
             Report::Lost,
@@ -165,10 +166,10 @@ fn report_of(state: State, event: Event, next: State) -> Report
 fn taken(state: u64, event: u64) -> Result<(State, Report), Refusal>
     ensures { Taken state event result }
 {
-    let before = State::try_from(state)?;
+    let from = State::try_from(state)?;
     let event = Event::try_from(event)?;
-    let next = before.next(event);
-    Ok((next, report_of(before, event, next)))
+    let to = from.next(event);
+    Ok((to, report_of(from, event, to)))
 }
 
 // Any state and any event: a C caller hands in any numbers.
