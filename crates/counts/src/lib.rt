@@ -60,7 +60,8 @@ fn one_higher(counter: u32) -> u32
     counter.checked_add(1).unwrap_or(CEILING)
 }
 
-// What raising and asking are refused with: the bay is looked at first, then the answer.
+// What raising and asking are refused with: the bay is looked at first, then the answer. Both are any numbers:
+// `BadAnswerExactly` speaks of codes that are no answer.
 pub fn refusal(bay: u64, answer: u64) -> Result<(), Refusal>
     ensures { Refuses bay answer result }
 {

@@ -253,7 +253,7 @@ impl Identification {
         Stepped {
             next: self,
             report: Report::None as u64,
-            refusal: u64::from(refusal),
+            refusal: refusal as u64,
         }
     }
 
