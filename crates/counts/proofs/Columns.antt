@@ -1,31 +1,52 @@
 -- The columns: which answer has which, found by a walk over the answers, and that every answer has one of its own.
 use Prim.Native.Nat.{ℕ, suc, ◌+◌, ◌<◌}
-use mathlib.Core.Bool.{Bool, true, false, ◌||◌}
+use mathlib.Core.Bool.{Bool, true, false, cond, ◌||◌}
 use mathlib.Core.List.{List, [], ◌∷◌}
-use mathlib.Core.Path.{◌≡◌, refl, sym, ap, ◌∙◌}
+use mathlib.Core.Path.{◌≡◌, refl, sym, ap, ◌∙◌, subst}
 use native.Mathlib.Omega.{arith}
 use borrow.Author.Rules.{rules}
-use borrow.Author.Tests.{eq-eqb, ne_eqb, eqb-true, ltb-true, lt-ltb, le-ltb}
+use borrow.Author.Tests.{eqb-true, ltb-true, lt-ltb, le-ltb}
 use lib.Dec.{eqb, ltb}
 use lib.ListN.{length, get_or, drop}
-use lib.Seq.{drop-cons}
+use Rattle.std.specs.Prelude.{Some, None, position, ◌==◌}
+use Rattle.std.specs.List.{position_or_len}
+use Rattle.std.proofs.lemmas.List.Recursion.{is_position_or_len}
+use Rattle.std.proofs.lemmas.List.Sums.{passes_at_first}
+use Rattle.table.specs.Choice.{pick}
 use Rattle.table.proofs.Laws.{by_test, by_order}
 use Rattle.phy.specs.Names.{answer_opened}
 use Rattle.phy_laws.specs.Waiting.{is_answer}
 use Rattle.counts.specs.Names.{column_count, answers, place_in, column_of, answer_at}
 use Rattle.counts.specs.Laws as laws
 
--- ---- one turn of the walk
+-- ---- the search of an answer
 
--- what stands at a place is the number, or the walk goes on
-pub place_here : (l : List ℕ) (i n : ℕ) → i < length l → get_or l i 0 ≡ n → place_in n (drop i l) ≡ 0
-place_here l i n h e = ap (place_in n) (drop-cons l i 0 h) ∙ rw (eq-eqb n (get_or l i 0) (sym e)) refl
+-- one more place, as the library counts it
+one_on : (test : Bool) (n : ℕ) → pick test 0 (suc n) ≡ cond test 0 (1 + n)
+one_on true n = refl
+one_on false n = omega arith
 
-pub place_on : (l : List ℕ) (i n : ℕ) → i < length l → (get_or l i 0 ≡ n → ⊥) → place_in n (drop i l) ≡ suc (place_in n (drop (i + 1) l))
-place_on l i n h e =
-    let next : suc i ≡ i + 1 = omega arith in
-    ap (place_in n) (drop-cons l i 0 h)
-    ∙ rw (ne_eqb n (get_or l i 0) (λ f. e (sym f))) (ap (λ (m : ℕ). suc (place_in n (drop m l))) next)
+-- the place of a number is the first that passes a test for it
+first_place : (n : ℕ) (l : List ℕ) → place_in n l ≡ position_or_len (λ a. n == a) l
+first_place n l = is_position_or_len (place_in n) (λ a. n == a) refl (λ a rest. one_on (eqb n a) (place_in n rest)) l
+
+-- and where a search finds it
+placed : (n : ℕ) (l : List ℕ) → cond (ltb (place_in n l) (length l)) (Some (place_in n l)) None ≡ position (λ a. n == a) l
+placed n l = ap (λ (k : ℕ). cond (ltb k (length l)) (Some k) None) (first_place n l)
+
+-- what is found is the column, and a column
+pub column_found : (answer at : ℕ) → Some at ≡ position (λ a. answer == a) answers
+    → (at ≡ column_of answer) × (ltb (column_of answer) column_count ≡ true)
+unfolding column_of
+column_found answer at e =
+    by_test (ltb (place_in answer answers) column_count)
+    (λ t. let f = rw t at (e ∙ sym (placed answer answers)) in (cc, t))
+    (λ t. let f = rw t at (e ∙ sym (placed answer answers)) in absurd cc)
+
+-- a code that is not found is no answer's
+pub column_missing : (answer : ℕ) → None ≡ position (λ a. answer == a) answers → ltb (column_of answer) column_count ≡ false
+unfolding column_of
+column_missing answer e = by_test (ltb (place_in answer answers) column_count) (λ t. let f = rw t at (e ∙ sym (placed answer answers)) in absurd cc) (λ t. t)
 
 -- ---- which codes are answers
 
@@ -57,10 +78,9 @@ within n (a ∷ rest) =
 
 -- and there it stands
 found : (n : ℕ) (l : List ℕ) → place_in n l < length l → get_or l (place_in n l) 0 ≡ n
-found n [] h = absurd (omega arith)
-found n (a ∷ rest) h =
-    by_test (eqb n a) (λ t. rw t (sym (eqb-true n a t)))
-    (λ t. rw t (found n rest (let h' : suc (place_in n rest) < suc (length rest) = rw t at h in omega (arith, h'))))
+found n l =
+    subst (λ (k : ℕ). k < length l → get_or l k 0 ≡ n) (sym (first_place n l))
+    (λ h. sym (eqb-true n _ (passes_at_first (λ a. n == a) l 0 h)))
 
 -- the answers are those that a phy gives
 pub is_answer_lem : (n : ℕ) → ltb (column_of n) column_count ≡ is_answer n

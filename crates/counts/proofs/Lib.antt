@@ -1,6 +1,5 @@
 pub mod Columns
 pub mod Places
-pub mod Clearing
 pub mod Determined
 pub mod Refusals
 pub mod One

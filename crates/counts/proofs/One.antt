@@ -6,8 +6,9 @@ use mathlib.Core.Path.{◌≡◌, refl, sym, ap, ◌∙◌}
 use native.Mathlib.Omega.{arith}
 use borrow.Author.Tests.{lt-ltb, le-ltb, eqb-true, eqb-false}
 use lib.Dec.{eqb}
-use lib.ListN.{length, set, get_or, replicate, length-set, length-replicate}
+use lib.ListN.{length, set, get_or, replicate, length-set, length-replicate, get_or-eq_default}
 use lib.Seq.{get_or-set_same, get_or-set_other}
+use Rattle.std.proofs.lemmas.List.{get_or-replicate}
 use Rattle.table.proofs.Laws.{by_test, by_order, by_pick}
 use Rattle.counts.specs.Names.{row_count, column_count, ceiling, column_of}
 use Rattle.counts.specs.Counters.{Counters, none, counter_at, is_counter, refusal_at, one_higher, raised_at, raised_of}
@@ -106,9 +107,9 @@ zeros_long zero = tt
 zeros_long (suc n) = (length-replicate {A = ℕ} column_count 0, zeros_long n)
 
 zero_at : (n column : ℕ) → get_or {A = ℕ} (replicate n 0) column 0 ≡ 0
-zero_at zero column = refl
-zero_at (suc n) zero = refl
-zero_at (suc n) (suc column) = zero_at n column
+zero_at n column =
+    by_order column n (λ h. get_or-replicate n column 0 0 h)
+    (λ h. get_or-eq_default (replicate n 0) 0 (omega (arith, length-replicate {A = ℕ} n 0)))
 
 zeros_at : (n bay column : ℕ) → counter_at (replicate n (replicate column_count 0)) bay column ≡ 0
 zeros_at zero bay column = refl

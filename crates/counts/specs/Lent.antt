@@ -1,10 +1,11 @@
 -- Counters as they are lent: the rows one after the other, sixteen numbers each. Another length is a bad state.
-use Rattle.std.specs.Prelude.{ℕ, ◌+◌, ◌*◌, Bool, ◌&&◌, List, [], ◌∷◌, ◌++◌, eqb, length, set, get_or, replicate}
+use Rattle.std.specs.Prelude.{ℕ, ◌+◌, ◌*◌, Bool, true, false, ◌&&◌, List, [], ◌∷◌, ◌++◌, ◌≡◌, ◌<◌, eqb, length}
+use Rattle.std.specs.Prelude.{set, get_or, replicate, Result, MatchResult}
 use Rattle.table.specs.Choice.{pick}
-use Rattle.table.specs.Refusals.{bad_state}
+use Rattle.table.specs.Refusals.{bad_state, number_of}
+use Rattle.table.specs.declared.Refusal.{Refusal}
 use Rattle.counts.specs.Names.{row_count, column_count, column_of}
-use Rattle.counts.specs.Counters.{Counters, refusal_at, is_counter, one_higher, counted}
-use Rattle.counts.specs.declared.Count.{Count}
+use Rattle.counts.specs.Counters.{Counters, Count, refusal_at, is_counter, one_higher, counted, refusal_told}
 
 -- so many numbers are lent
 abbrev pub lent_length : ℕ
@@ -29,6 +30,21 @@ lent_refusal_at long bay column = pick (eqb long lent_length) (refusal_at bay co
 
 abbrev pub lent_refusal : List ℕ → (bay answer : ℕ) → ℕ
 lent_refusal ns bay answer = lent_refusal_at (length ns) bay (column_of answer)
+
+-- so many numbers are judged: 1 for another length
+abbrev pub Measures : (long : ℕ) → Result (Unit {0}) Refusal → Type 0
+Measures long r = refusal_told r ≡ pick (eqb long lent_length) 0 bad_state
+
+-- the place of the counter of a bay and an answer among so many numbers, or the refusal where there is none
+abbrev pub FindsLent : (long bay answer : ℕ) → Result ℕ Refusal → Type 0
+FindsLent long bay answer r =
+    MatchResult r
+    (λ place.
+    (eqb long lent_length && is_counter bay (column_of answer) ≡ true) × (place ≡ place_of bay (column_of answer))
+    × (place < lent_length))
+    (λ refusal.
+    (eqb long lent_length && is_counter bay (column_of answer) ≡ false)
+    × (number_of refusal ≡ lent_refusal_at long bay (column_of answer)))
 
 -- there is a counter of a bay in a column among the numbers
 abbrev pub is_lent : List ℕ → (bay column : ℕ) → Bool

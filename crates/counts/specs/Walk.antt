@@ -2,9 +2,8 @@
 use Rattle.std.specs.Prelude.{ℕ, suc, min, Bool, ◌&&◌, List, [], ◌∷◌, eqb}
 use Rattle.table.specs.Choice.{pick}
 use Rattle.counts.specs.Names.{ceiling, column_of}
-use Rattle.counts.specs.Counters.{Counters, refusal_of, is_counter, raised_of, counted}
+use Rattle.counts.specs.Counters.{Counters, Count, refusal_of, is_counter, raised_of, counted}
 use Rattle.counts.specs.Lent.{lent_raised}
-use Rattle.counts.specs.declared.Count.{Count}
 
 -- an answer with its bay; any two numbers
 pub record Given : Type 0 where

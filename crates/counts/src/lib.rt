@@ -3,11 +3,11 @@
 #![tactic(auto)]
 
 mod lent;
+mod place;
 mod rows;
 
 ghost use Rattle.std.specs.Prelude.{◌≡◌};
-ghost use Rattle.counts.specs.Names.{column_of};
-ghost use Rattle.counts.specs.Counters.{is_counter, refusal_at};
+ghost use Rattle.counts.specs.Counters.{one_higher};
 ghost use Rattle.counts.specs.Promises.{Refuses};
 
 pub use lent::{ask, clear, raise};
@@ -17,7 +17,9 @@ use phy::{
     ANSWER_PATHWAY_BLOCKED, ANSWER_PORT_LAYER_REQUEST, ANSWER_PROTOCOL, ANSWER_RATE, ANSWER_RETRY,
     ANSWER_STP_BUSY, ANSWER_TERMINATED, ANSWER_WRONG_DESTINATION,
 };
+use place::Place;
 pub use rows::{asked, cleared, raised};
+use table::Refusal;
 
 // A row for each bay that a port may have.
 pub const ROWS: usize = port::MOST_PHYS;
@@ -51,51 +53,18 @@ pub const ANSWERS: [u64; COLUMNS] = [
     ANSWER_TERMINATED,
 ];
 
-// What a question gives: a counter, and the number of a refusal.
-#[repr(C)]
-#[derive(Clone, Copy)]
-pub struct Count {
-    pub count: u64,
-    pub refusal: u64,
-}
-
-// The column of an answer; 16 for a code that is none.
-fn column(answer: u64) -> usize
-    ensures { result ≡ column_of answer }
+// A counter one higher, up to its ceiling.
+fn one_higher(counter: u32) -> u32
+    ensures { result ≡ one_higher counter }
 {
-    let mut i = 0;
-    while i < COLUMNS {
-        if ANSWERS[i] == answer {
-            return i;
-        }
-        i += 1;
-    }
-    COLUMNS
+    counter.checked_add(1).unwrap_or(CEILING)
 }
 
-// Whether a bay has a row, and a column is one.
-fn is_counted(bay: u64, at: usize) -> bool
-    ensures { result ≡ is_counter bay at }
-{
-    (bay < ROWS as u64) & (at < COLUMNS)
-}
-
-// What raising and asking are refused with: the bay is looked at first.
-fn refusal_at(bay: u64, at: usize) -> u64
-    ensures { result ≡ refusal_at bay at }
-{
-    if bay < ROWS as u64 {
-        if at < COLUMNS {
-            return 0;
-        }
-        return table::BAD_EVENT;
-    }
-    table::NO_SUCH_PHY
-}
-
-// The same of an answer.
-pub fn refusal(bay: u64, answer: u64) -> u64
+// What raising and asking are refused with: the bay is looked at first, then the answer. Both are any numbers:
+// `BadAnswerExactly` speaks of codes that are no answer.
+pub fn refusal(bay: u64, answer: u64) -> Result<(), Refusal>
     ensures { Refuses bay answer result }
 {
-    refusal_at(bay, column(answer))
+    let _ = Place::new(bay, answer)?;
+    Ok(())
 }

@@ -1,16 +1,16 @@
 -- Synchronization is acquired by the third primitive, and not again without a loss or a restart.
 use Prim.Native.Nat.{ℕ, ◌+◌, ◌-◌, ◌≤◌, min}
-use mathlib.Core.Bool.{Bool, true, false, ◌&&◌, ◌||◌, true≢false}
+use mathlib.Core.Bool.{false, ◌&&◌, ◌||◌}
 use mathlib.Core.List.{List, [], ◌∷◌}
 use mathlib.Core.Logic.{⊎_elim}
 use mathlib.Core.Path.{◌≡◌, refl, sym, subst}
 use native.Mathlib.Nat.{zero-add}
 use native.Mathlib.Omega.{arith}
-use borrow.Author.Tests.{ne_eqb, eqb-false}
-use lib.Dec.{T, eqb, leb, ltb, eqb→eq}
-use lib.Ieee.Fits.{and_r}
+use borrow.Author.Tests.{ne_eqb, eqb-true, eqb-false}
+use lib.Dec.{eqb, leb, ltb}
+use Rattle.std.proofs.lemmas.Bool.{or_parts}
 use Rattle.table.specs.Choice.{pick}
-use Rattle.table.proofs.Laws.{by_test, by_order, Each, each}
+use Rattle.table.proofs.Laws.{by_test, by_order, parts, Each, each}
 use Rattle.dws.specs.Names.{acquire_sync, valid2, sync_acquired, lost3, invalid_dword, restart, data_dword, primitive, acquired, lost}
 use Rattle.dws.specs.Step.{step_of, next_state, after_invalid, after_valid, after_primitive, report_of}
 use Rattle.dws.specs.Laws.{Synchronized, run, AllValid, primitives, acquisitions, ThreePrimitives, acquired_still, LostBetween}
@@ -75,10 +75,6 @@ held s event h =
     (λ k. let r = bad_event_lem s event h.most k in record { not_again = rw r (omega arith); still = λ _ _. rw r h })
     (λ k. held_known s event h k)
 
-neither : (a b : Bool) → (a || b) ≡ false → (a ≡ false) × (b ≡ false)
-neither true b e = absurd (true≢false e)
-neither false b e = (refl, e)
-
 held_still : (s : ℕ) (events : List ℕ) → Synchronized s → acquired_still s events ≡ false
 held_still s [] h = refl
 held_still s (event ∷ events) h =
@@ -86,7 +82,7 @@ held_still s (event ∷ events) h =
     rw (ne_eqb (step_of s event).report acquired o.not_again)
     (by_test (eqb (step_of s event).report lost || eqb event restart)
     (λ t. rw t)
-    (λ f. let n = neither (eqb (step_of s event).report lost) (eqb event restart) f in
+    (λ f. let n = or_parts (eqb (step_of s event).report lost) (eqb event restart) f in
     rw f (held_still (step_of s event).state events (o.still (eqb-false (step_of s event).report lost n.0) (eqb-false event restart n.1)))))
 
 -- a report of acquisition says that 3 is entered
@@ -94,7 +90,7 @@ entered : (s event next : ℕ) → report_of s event next ≡ acquired → next 
 unfolding report_of
 entered s event next e =
     by_test (eqb s valid2 && eqb next sync_acquired)
-    (λ t. eqb→eq next sync_acquired (and_r (eqb s valid2) (eqb next sync_acquired) (subst T (sym t) tt)))
+    (λ t. eqb-true next sync_acquired (parts (eqb s valid2) (eqb next sync_acquired) t).1)
     (λ f. by_test (leb lost3 s && eqb next acquire_sync && eqb event invalid_dword)
     (λ t. absurd (omega (arith, rw (f, t) at e)))
     (λ g. absurd (omega (arith, rw (f, g) at e))))

@@ -1,11 +1,24 @@
 -- Dword synchronization: a state and an event give the next state and a report.
-use Rattle.std.specs.Prelude.{ℕ, ◌&&◌, List, [], ◌∷◌, eqb, leb}
+use Rattle.std.specs.Prelude.{ℕ, ◌&&◌, List, [], ◌∷◌, ◌<◌, ◌≡◌, Result, MatchResult, eqb, leb}
 use Rattle.table.specs.Choice.{pick, Row, ◌⇒◌, rows}
-use Rattle.table.specs.Refusals.{bad_state, bad_event}
+use Rattle.table.specs.Refusals.{bad_state, bad_event, number_of}
+use Rattle.table.specs.declared.Refusal.{Refusal}
+use Rattle.table.specs.declared.Refusal.TheVariants.{BadState, BadEvent}
 use Rattle.dws.specs.Names.{acquire_sync, valid1, valid2, sync_acquired, lost1, lost1_recovered, lost2}
 use Rattle.dws.specs.Names.{lost2_recovered, lost3, lost3_recovered, invalid_dword, data_dword, primitive, restart}
-use Rattle.dws.specs.Names.{no_report, acquired, lost}
+use Rattle.dws.specs.Names.{no_report, acquired, lost, number_of_state, number_of_event, number_of_report}
+use Rattle.dws.specs.declared.State.{State}
+use Rattle.dws.specs.declared.Event.{Event}
+use Rattle.dws.specs.declared.Report.{Report}
 use Rattle.dws.specs.declared.Stepped.{Stepped}
+
+-- the state that a number names, or a bad state above 9
+abbrev pub StateAt : ℕ → Result State Refusal → Type 0
+StateAt n r = MatchResult r (λ s. number_of_state s ≡ n) (λ e. (e ≡ BadState) × (lost3_recovered < n))
+
+-- the event that a number names, or a bad event above 3
+abbrev pub EventAt : ℕ → Result Event Refusal → Type 0
+EventAt n r = MatchResult r (λ e. number_of_event e ≡ n) (λ e. (e ≡ BadEvent) × (restart < n))
 
 -- a fresh machine
 abbrev pub fresh_state : ℕ
@@ -79,3 +92,10 @@ moved s event = record { state = next_state s event; report = report_of s event 
 unfoldable pub step_of : ℕ → ℕ → Stepped
 step_of s event =
     pick (leb s lost3_recovered) (pick (leb event restart) (moved s event) (refused s bad_event)) (refused s bad_state)
+
+-- what is taken or refused, as the step tells it
+abbrev pub Taken : ℕ → ℕ → Result (State × Report) Refusal → Type 0
+Taken s event r =
+    MatchResult r
+    (λ t. record { state = number_of_state t.0; report = number_of_report t.1; refusal = 0 } ≡ step_of s event)
+    (λ e. refused s (number_of e) ≡ step_of s event)

@@ -2,45 +2,138 @@
 #![tactic(auto)]
 
 ghost use Rattle.std.specs.Prelude.{◌≡◌};
+ghost use Rattle.dws.specs.Names.{number_of_state, number_of_event, number_of_report};
+ghost use Rattle.dws.specs.Step.{StateAt, EventAt, Taken};
 ghost use Rattle.dws.specs.Step.{after_invalid, after_valid, after_primitive, next_state, report_of};
 ghost use Rattle.dws.specs.Promises.{StartsFresh, Steps};
 
-// The states, as the standard names them.
-const ACQUIRE_SYNC: u64 = 0;
+use table::Refusal;
 
-const VALID_1: u64 = 1;
+// The states, as the standard names them; `as u64` gives the number.
+#[derive(Clone, Copy)]
+enum State {
+    AcquireSync = 0,
+    Valid1 = 1,
+    Valid2 = 2,
+    SyncAcquired = 3,
+    Lost1 = 4,
+    Lost1Recovered = 5,
+    Lost2 = 6,
+    Lost2Recovered = 7,
+    Lost3 = 8,
+    Lost3Recovered = 9,
+}
 
-const VALID_2: u64 = 2;
+#[derive(Clone, Copy)]
+enum Event {
+    InvalidDword = 0,
+    DataDword = 1,
+    Primitive = 2,
+    Restart = 3,
+}
 
-const SYNC_ACQUIRED: u64 = 3;
+#[derive(Clone, Copy)]
+enum Report {
+    NoReport = 0,
+    Acquired = 1,
+    Lost = 2,
+}
 
-const LOST_1: u64 = 4;
+impl TryFrom<u64> for State {
+    type Error = Refusal;
 
-const LOST_1_RECOVERED: u64 = 5;
+    ghost try_from_gives = { StateAt };
 
-const LOST_2: u64 = 6;
+    fn try_from(number: u64) -> Result<State, Refusal> {
+        match number {
+            0 => Ok(State::AcquireSync),
+            1 => Ok(State::Valid1),
+            2 => Ok(State::Valid2),
+            3 => Ok(State::SyncAcquired),
+            4 => Ok(State::Lost1),
+            5 => Ok(State::Lost1Recovered),
+            6 => Ok(State::Lost2),
+            7 => Ok(State::Lost2Recovered),
+            8 => Ok(State::Lost3),
+            9 => Ok(State::Lost3Recovered),
+            _ => Err(Refusal::BadState),
+        }
+    }
+}
 
-const LOST_2_RECOVERED: u64 = 7;
+impl TryFrom<u64> for Event {
+    type Error = Refusal;
 
-const LOST_3: u64 = 8;
+    ghost try_from_gives = { EventAt };
 
-const LOST_3_RECOVERED: u64 = 9;
+    fn try_from(number: u64) -> Result<Event, Refusal> {
+        match number {
+            0 => Ok(Event::InvalidDword),
+            1 => Ok(Event::DataDword),
+            2 => Ok(Event::Primitive),
+            3 => Ok(Event::Restart),
+            _ => Err(Refusal::BadEvent),
+        }
+    }
+}
 
-const INVALID_DWORD: u64 = 0;
+impl State {
+    #[tactic(auto, unfolding(crate::specs::Step::after_valid))]
+    fn after_valid(self) -> State
+        ensures { number_of_state result ≡ after_valid (number_of_state self) }
+    {
+        match self {
+            State::AcquireSync | State::Valid1 | State::Valid2 => self,
+            State::SyncAcquired => State::SyncAcquired,
+            State::Lost1 => State::Lost1Recovered,
+            State::Lost1Recovered => State::SyncAcquired,
+            State::Lost2 => State::Lost2Recovered,
+            State::Lost2Recovered => State::Lost1,
+            State::Lost3 => State::Lost3Recovered,
+            State::Lost3Recovered => State::Lost2,
+        }
+    }
 
-const DATA_DWORD: u64 = 1;
+    // Before synchronization primitives alone count.
+    #[tactic(auto, unfolding(crate::specs::Step::after_primitive))]
+    fn after_primitive(self) -> State
+        ensures { number_of_state result ≡ after_primitive (number_of_state self) }
+    {
+        match self {
+            State::AcquireSync => State::Valid1,
+            State::Valid1 => State::Valid2,
+            State::Valid2 => State::SyncAcquired,
+            _ => self.after_valid(),
+        }
+    }
 
-const PRIMITIVE: u64 = 2;
+    #[tactic(auto, unfolding(crate::specs::Step::after_invalid))]
+    fn after_invalid(self) -> State
+        ensures { number_of_state result ≡ after_invalid (number_of_state self) }
+    {
+        match self {
+            State::AcquireSync | State::Valid1 | State::Valid2 => State::AcquireSync,
+            State::SyncAcquired => State::Lost1,
+            State::Lost1 | State::Lost1Recovered => State::Lost2,
+            State::Lost2 | State::Lost2Recovered => State::Lost3,
+            State::Lost3 | State::Lost3Recovered => State::AcquireSync,
+        }
+    }
 
-const RESTART: u64 = 3;
+    #[tactic(auto, unfolding(crate::specs::Step::next_state))]
+    fn next(self, event: Event) -> State
+        ensures { number_of_state result ≡ next_state (number_of_state self) (number_of_event event) }
+    {
+        match event {
+            Event::InvalidDword => self.after_invalid(),
+            Event::DataDword => self.after_valid(),
+            Event::Primitive => self.after_primitive(),
+            Event::Restart => State::AcquireSync,
+        }
+    }
+}
 
-const NO_REPORT: u64 = 0;
-
-const ACQUIRED: u64 = 1;
-
-const LOST: u64 = 2;
-
-// What a step gives: the state, the report, and the number of a refusal or 0.
+// What a step gives: the state, the report, and the number of a refusal or 0. Numbers, as C takes them.
 #[repr(C)]
 #[derive(Clone, Copy)]
 pub struct Stepped {
@@ -52,100 +145,47 @@ pub struct Stepped {
 pub fn fresh() -> u64
     ensures { StartsFresh result }
 {
-    ACQUIRE_SYNC
+    State::AcquireSync as u64
 }
 
 // A restart enters the first state too, and reports nothing.
-fn report_of(state: u64, event: u64, next: u64) -> u64
-    ensures { result ≡ report_of state event next }
+#[tactic(auto, unfolding(crate::specs::Step::report_of))]
+fn report_of(from: State, event: Event, to: State) -> Report
+    ensures { number_of_report result ≡ report_of (number_of_state from) (number_of_event event) (number_of_state to) }
 {
-    if (state == VALID_2) & (next == SYNC_ACQUIRED) {
-        return ACQUIRED;
-    }
-    if (LOST_3 <= state) & (next == ACQUIRE_SYNC) & (event == INVALID_DWORD) {
-        return LOST;
-    }
-    NO_REPORT
-}
-
-fn after_valid(state: u64) -> u64
-    ensures { result ≡ after_valid state }
-{
-    match state {
-        SYNC_ACQUIRED => SYNC_ACQUIRED,
-        LOST_1 => LOST_1_RECOVERED,
-        LOST_1_RECOVERED => SYNC_ACQUIRED,
-        LOST_2 => LOST_2_RECOVERED,
-        LOST_2_RECOVERED => LOST_1,
-        LOST_3 => LOST_3_RECOVERED,
-        LOST_3_RECOVERED => LOST_2,
-        _ => state,
+    match (from, event, to) {
+        (State::Valid2, _, State::SyncAcquired) => Report::Acquired,
+        (State::Lost3 | State::Lost3Recovered, Event::InvalidDword, State::AcquireSync) =>
+            Report::Lost,
+        _ => Report::NoReport,
     }
 }
 
-// Before synchronization primitives alone count.
-fn after_primitive(state: u64) -> u64
-    ensures { result ≡ after_primitive state }
+// A state above 9 is refused, then an event above 3.
+#[tactic(auto, unfolding(crate::specs::Step::step_of))]
+fn taken(state: u64, event: u64) -> Result<(State, Report), Refusal>
+    ensures { Taken state event result }
 {
-    match state {
-        ACQUIRE_SYNC => VALID_1,
-        VALID_1 => VALID_2,
-        VALID_2 => SYNC_ACQUIRED,
-        _ => after_valid(state),
-    }
+    let from = State::try_from(state)?;
+    let event = Event::try_from(event)?;
+    let to = from.next(event);
+    Ok((to, report_of(from, event, to)))
 }
 
-fn after_invalid(state: u64) -> u64
-    ensures { result ≡ after_invalid state }
-{
-    match state {
-        VALID_1 => ACQUIRE_SYNC,
-        VALID_2 => ACQUIRE_SYNC,
-        SYNC_ACQUIRED => LOST_1,
-        LOST_1 => LOST_2,
-        LOST_1_RECOVERED => LOST_2,
-        LOST_2 => LOST_3,
-        LOST_2_RECOVERED => LOST_3,
-        LOST_3 => ACQUIRE_SYNC,
-        LOST_3_RECOVERED => ACQUIRE_SYNC,
-        _ => state,
-    }
-}
-
-fn next_state(state: u64, event: u64) -> u64
-    ensures { result ≡ next_state state event }
-{
-    match event {
-        INVALID_DWORD => after_invalid(state),
-        DATA_DWORD => after_valid(state),
-        PRIMITIVE => after_primitive(state),
-        RESTART => ACQUIRE_SYNC,
-        _ => state,
-    }
-}
-
-// Any state and any event: a state above 9 is refused, then an event above 3.
+// Any state and any event: a C caller hands in any numbers.
 pub fn step(state: u64, event: u64) -> Stepped
     ensures { Steps state event result }
 {
-    if LOST_3_RECOVERED < state {
-        return Stepped {
+    match taken(state, event) {
+        Ok((next, report)) => Stepped {
+            state: next as u64,
+            report: report as u64,
+            refusal: 0,
+        },
+        Err(refusal) => Stepped {
             state,
-            report: NO_REPORT,
-            refusal: table::BAD_STATE,
-        };
-    }
-    if RESTART < event {
-        return Stepped {
-            state,
-            report: NO_REPORT,
-            refusal: table::BAD_EVENT,
-        };
-    }
-    let next = next_state(state, event);
-    Stepped {
-        state: next,
-        report: report_of(state, event, next),
-        refusal: 0,
+            report: Report::NoReport as u64,
+            refusal: refusal as u64,
+        },
     }
 }

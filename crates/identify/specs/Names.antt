@@ -1,5 +1,9 @@
 -- The paper's numbers of identification, by name.
 use Rattle.std.specs.Prelude.{ℕ}
+use Rattle.identify.specs.declared.Receiver.{Receiver}
+use Rattle.identify.specs.declared.Receiver.TheVariants.{Idle, Receiving, Spoiled, Completed}
+use Rattle.identify.specs.declared.Report.{Report}
+use Rattle.identify.specs.declared.Report.TheVariants.{None, Failed, Complete, TimeOut, ResetReceived}
 
 -- ---- the receiver
 
@@ -18,6 +22,13 @@ spoiled = 2
 -- a frame has ended
 abbrev pub completed : ℕ
 completed = 3
+
+-- the number of each state
+abbrev pub number_of_receiver : Receiver → ℕ
+number_of_receiver Idle = idle
+number_of_receiver Receiving = receiving
+number_of_receiver Spoiled = spoiled
+number_of_receiver Completed = completed
 
 -- ---- the events
 
@@ -74,6 +85,14 @@ time_out = 3
 -- a HARD_RESET came before an identify frame was got
 abbrev pub reset_received : ℕ
 reset_received = 4
+
+-- the number of each report
+abbrev pub number_of_report : Report → ℕ
+number_of_report None = none
+number_of_report Failed = failed
+number_of_report Complete = complete
+number_of_report TimeOut = time_out
+number_of_report ResetReceived = reset_received
 
 -- ---- frames and limits
 

@@ -1,5 +1,5 @@
 -- Which states are valid: one test for each rule of the paper.
-use Rattle.std.specs.Prelude.{Bool, ◌&&◌, ◌||◌, not, eqb, leb}
+use Rattle.std.specs.Prelude.{ℕ, Bool, ◌&&◌, ◌||◌, not, eqb, leb}
 use Rattle.table.specs.Choice.{split}
 use Rattle.table.specs.Flags.{is_flag, is_on}
 use Rattle.identify.specs.Names.{idle, receiving, completed, none, complete, time_out, reset_received}
@@ -9,6 +9,14 @@ use Rattle.identify.specs.declared.Identification.{Identification}
 -- one thing holds only where another does
 abbrev pub only : Bool → Bool → Bool
 only holds needed = not holds || needed
+
+-- the receiver is in the state of a number
+abbrev pub is_in : Identification → ℕ → Bool
+is_in i receiver = eqb i.receiver receiver
+
+-- the outcome is that of a number
+abbrev pub ended_by : Identification → ℕ → Bool
+ended_by i outcome = eqb i.outcome outcome
 
 -- inside a frame
 abbrev pub in_frame : Identification → Bool

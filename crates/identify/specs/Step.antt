@@ -1,5 +1,6 @@
 -- What each event does to a state, in the paper's order, and what the step is for any record and numbers.
-use Rattle.std.specs.Prelude.{ℕ, ◌+◌, ◌-◌, ◌/◌, ◌%◌, Bool, ◌&&◌, ◌||◌, not, List, [], ◌∷◌, eqb, leb}
+use Rattle.std.specs.Prelude.{ℕ, ◌+◌, ◌-◌, ◌/◌, ◌%◌, Bool, true, false, ◌&&◌, ◌||◌, not, List, [], ◌∷◌, ◌≡◌, eqb, leb}
+use Rattle.std.specs.Prelude.{Result, MatchResult}
 use Rattle.table.specs.Choice.{pick, Row, ◌⇒◌, rows}
 use Rattle.table.specs.Flags.{off, on, is_on, flag_of}
 use Rattle.table.specs.Refusals.{bad_state, bad_event}
@@ -8,6 +9,11 @@ use Rattle.identify.specs.Names.{other_primitive, own_frame_sent, tick, enable, 
 use Rattle.identify.specs.Names.{reset_received, frame_dwords, identify_type, type_place, type_values, crc_good}
 use Rattle.identify.specs.Names.{most_dword, full_timer}
 use Rattle.identify.specs.State.{both, valid_of}
+use Rattle.table.specs.declared.Refusal.{Refusal}
+use Rattle.table.specs.declared.Refusal.TheVariants.{BadEvent}
+use Rattle.identify.specs.declared.Event.{Event}
+use Rattle.identify.specs.declared.Event.TheVariants.{Soaf, DataDword, Eoaf, HardReset, OtherPrimitive, OwnFrameSent}
+use Rattle.identify.specs.declared.Event.TheVariants.{Tick, Enable}
 use Rattle.identify.specs.declared.Identification.{Identification}
 use Rattle.identify.specs.declared.Stepped.{Stepped}
 
@@ -151,6 +157,35 @@ most_of event = rows event ((data_dword ⇒ most_dword) ∷ (eoaf ⇒ crc_good) 
 -- an event has one of the eight codes, and an argument in its range
 unfoldable pub known_of : (event argument : ℕ) → Bool
 known_of event argument = leb event enable && leb argument (most_of event)
+
+-- the code of each event
+abbrev pub code_of : Event → ℕ
+code_of Soaf = soaf
+code_of (DataDword dword) = data_dword
+code_of (Eoaf good) = eoaf
+code_of HardReset = hard_reset
+code_of OtherPrimitive = other_primitive
+code_of OwnFrameSent = own_frame_sent
+code_of Tick = tick
+code_of Enable = enable
+
+-- its argument, 0 where it has none
+abbrev pub argument_of : Event → ℕ
+argument_of Soaf = 0
+argument_of (DataDword dword) = dword
+argument_of (Eoaf good) = flag_of good
+argument_of HardReset = 0
+argument_of OtherPrimitive = 0
+argument_of OwnFrameSent = 0
+argument_of Tick = 0
+argument_of Enable = 0
+
+-- two numbers are known and this event's, or not known and refused
+abbrev pub ReadsEvent : ℕ × ℕ → Result Event Refusal → Type 0
+ReadsEvent numbers r =
+    MatchResult r
+    (λ e. (known_of numbers.0 numbers.1 ≡ true) × (code_of e ≡ numbers.0) × (argument_of e ≡ numbers.1))
+    (λ refusal. (known_of numbers.0 numbers.1 ≡ false) × (refusal ≡ BadEvent))
 
 -- what each event does
 abbrev pub moves : Identification → ℕ → List (Row Stepped)

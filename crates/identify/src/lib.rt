@@ -3,55 +3,62 @@
 #![tactic(auto)]
 
 ghost use Rattle.std.specs.Prelude.{◌≡◌};
+ghost use Rattle.table.specs.Flags.{flag_of};
+ghost use Rattle.table.specs.Refusals.{number_of};
+ghost use Rattle.identify.specs.State.{is_in, ended_by};
+ghost use Rattle.identify.specs.Names.{number_of_receiver, number_of_report};
 ghost use Rattle.identify.specs.Promises.{StartsFresh, TellsValid, Steps};
-ghost use Rattle.identify.specs.Step.{goes, reports, quiet, ends, exchanged, refused, on_soaf, type_after, counted, on_data_dword, frame_ends, on_eoaf, on_hard_reset, on_own_frame_sent, on_tick, most_of, known_of, move_of};
+ghost use Rattle.identify.specs.Step.{goes, reports, quiet, ends, exchanged, refused, on_soaf, type_after, counted};
+ghost use Rattle.identify.specs.Step.{on_data_dword, frame_ends, on_eoaf, on_hard_reset, on_own_frame_sent, on_tick};
+ghost use Rattle.identify.specs.Step.{code_of, argument_of, ReadsEvent, move_of};
 
-// The receiver's states.
-pub const IDLE: u64 = 0;
+use table::Refusal;
 
-pub const RECEIVING: u64 = 1;
+// The receiver's states; a record holds the number, as C hands it in.
+#[derive(Clone, Copy)]
+enum Receiver {
+    Idle = 0,
+    Receiving = 1,
+    Spoiled = 2,
+    Completed = 3,
+}
 
-pub const SPOILED: u64 = 2;
+// The events' codes, as C hands them in.
+const SOAF: u64 = 0;
 
-pub const COMPLETED: u64 = 3;
+const DATA_DWORD: u64 = 1;
 
-// The events.
-pub const SOAF: u64 = 0;
+const EOAF: u64 = 2;
 
-pub const DATA_DWORD: u64 = 1;
+const HARD_RESET: u64 = 3;
 
-pub const EOAF: u64 = 2;
+const OTHER_PRIMITIVE: u64 = 4;
 
-pub const HARD_RESET: u64 = 3;
+const OWN_FRAME_SENT: u64 = 5;
 
-pub const OTHER_PRIMITIVE: u64 = 4;
+const TICK: u64 = 6;
 
-pub const OWN_FRAME_SENT: u64 = 5;
+const ENABLE: u64 = 7;
 
-pub const TICK: u64 = 6;
-
-pub const ENABLE: u64 = 7;
-
-// The reports; from COMPLETE on they are outcomes too.
-pub const NONE: u64 = 0;
-
-pub const FAILED: u64 = 1;
-
-pub const COMPLETE: u64 = 2;
-
-pub const TIME_OUT: u64 = 3;
-
-pub const RESET_RECEIVED: u64 = 4;
+// The reports; from Complete on they are outcomes too, and a record holds the number.
+#[derive(Clone, Copy)]
+enum Report {
+    None = 0,
+    Failed = 1,
+    Complete = 2,
+    TimeOut = 3,
+    ResetReceived = 4,
+}
 
 // A whole identify frame has this many data dwords.
 const FRAME_DWORDS: u64 = 8;
 
 // The first dword's type: four bits from bit 24 on.
-const TYPE_PLACE: u64 = 16777216;
+const TYPE_PLACE: u32 = 16777216;
 
-const TYPE_VALUES: u64 = 16;
+const TYPE_VALUES: u32 = 16;
 
-const IDENTIFY_TYPE: u64 = 0;
+const IDENTIFY_TYPE: u32 = 0;
 
 // An EOAF's argument where the CRC was good.
 const CRC_GOOD: u64 = 1;
@@ -61,9 +68,45 @@ const MOST_DWORD: u64 = 4294967295;
 // Ticks that the other side's frame is waited for.
 const FULL_TIMER: u64 = 1000;
 
+// An event with its argument.
+#[derive(Clone, Copy)]
+enum Event {
+    Soaf,
+    DataDword(u32),
+    Eoaf { crc_good: bool },
+    HardReset,
+    OtherPrimitive,
+    OwnFrameSent,
+    Tick,
+    Enable,
+}
+
+// A code and an argument; an event that has no argument comes with 0.
+impl TryFrom<(u64, u64)> for Event {
+    type Error = Refusal;
+
+    ghost try_from_gives = { ReadsEvent };
+
+    #[tactic(auto, unfolding(crate::specs::Step::most_of, crate::specs::Step::known_of))]
+    fn try_from(numbers: (u64, u64)) -> Result<Event, Refusal> {
+        match numbers {
+            (SOAF, 0) => Ok(Event::Soaf),
+            (DATA_DWORD, dword @ 0..=MOST_DWORD) => Ok(Event::DataDword(dword as u32)),
+            (EOAF, 0) => Ok(Event::Eoaf { crc_good: false }),
+            (EOAF, CRC_GOOD) => Ok(Event::Eoaf { crc_good: true }),
+            (HARD_RESET, 0) => Ok(Event::HardReset),
+            (OTHER_PRIMITIVE, 0) => Ok(Event::OtherPrimitive),
+            (OWN_FRAME_SENT, 0) => Ok(Event::OwnFrameSent),
+            (TICK, 0) => Ok(Event::Tick),
+            (ENABLE, 0) => Ok(Event::Enable),
+            _ => Err(Refusal::BadEvent),
+        }
+    }
+}
+
 // What has come so far: the receiver with the data dwords counted in a frame and whether its type is
-// Identify, the identify frame got, our own frame sent, the timer and the outcome. `typed`, `got` and
-// `sent` are flags as numbers, so that `valid` can judge whatever a C caller hands in.
+// Identify, the identify frame got, our own frame sent, the timer and the outcome. Numbers alone, flags
+// too, so that `valid` can judge whatever a C caller hands in.
 #[repr(C)]
 #[derive(Clone, Copy)]
 pub struct Identification {
@@ -76,6 +119,7 @@ pub struct Identification {
     pub sent: u64,
 }
 
+// What a step gives: the state, the report, and the number of a refusal or 0. Numbers, as C takes them.
 #[repr(C)]
 #[derive(Clone, Copy)]
 pub struct Stepped {
@@ -89,10 +133,10 @@ pub fn fresh() -> Identification
     ensures { StartsFresh result }
 {
     Identification {
-        receiver: IDLE,
+        receiver: Receiver::Idle as u64,
         count: 0,
         timer: 0,
-        outcome: NONE,
+        outcome: Report::None as u64,
         typed: table::OFF,
         got: table::OFF,
         sent: table::OFF,
@@ -100,30 +144,31 @@ pub fn fresh() -> Identification
 }
 
 // One test for each rule; no branches, so that all are made at once.
+#[tactic(auto, unfolding(crate::specs::State::valid_of))]
 pub fn valid(i: Identification) -> bool
     ensures { TellsValid i result }
 {
     let typed = i.typed == table::ON;
     let got = i.got == table::ON;
     let sent = i.sent == table::ON;
-    let framed = i.receiver == RECEIVING;
+    let framed = i.is_in(Receiver::Receiving);
     let both = got & sent;
-    let none = i.outcome == NONE;
-    let complete = i.outcome == COMPLETE;
-    let timed_out = i.outcome == TIME_OUT;
-    let reset = i.outcome == RESET_RECEIVED;
+    let none = i.ended_by(Report::None);
+    let complete = i.ended_by(Report::Complete);
+    let timed_out = i.ended_by(Report::TimeOut);
+    let reset = i.ended_by(Report::ResetReceived);
     let awaiting = sent & !got & none;
     let flags_right = (i.typed <= table::ON) & (i.got <= table::ON) & (i.sent <= table::ON);
-    let receiver_right = i.receiver <= COMPLETED;
+    let receiver_right = i.receiver <= Receiver::Completed as u64;
     let count_right = (framed & (i.count <= FRAME_DWORDS)) | (!framed & (i.count == 0));
     let timer_right = (awaiting & ((1 <= i.timer) & (i.timer <= FULL_TIMER)))
         | (!awaiting & (i.timer == 0));
-    let got_right = !got | (i.receiver == COMPLETED);
+    let got_right = !got | i.is_in(Receiver::Completed);
     let typed_right = !typed | (framed & (1 <= i.count));
     let outcome_right = none | complete | timed_out | reset;
     let complete_right = (complete & both) | (!complete & !both);
     let timed_out_right = !timed_out | (sent & !got);
-    let reset_right = !reset | (!got & ((i.receiver == IDLE) | (i.receiver == COMPLETED)));
+    let reset_right = !reset | (!got & (i.is_in(Receiver::Idle) | i.is_in(Receiver::Completed)));
     flags_right
         & receiver_right
         & count_right
@@ -136,235 +181,241 @@ pub fn valid(i: Identification) -> bool
         & reset_right
 }
 
-// The receiver goes to a state, with dwords counted and the type Identify or not.
-fn goes(i: Identification, receiver: u64, count: u64, typed: u64) -> Identification
-    ensures { result ≡ goes i receiver count typed }
-{
-    let mut next = i;
-    next.receiver = receiver;
-    next.count = count;
-    next.typed = typed;
-    next
-}
-
-fn reports(next: Identification, report: u64) -> Stepped
-    ensures { result ≡ reports next report }
-{
-    Stepped {
-        next,
-        report,
-        refusal: 0,
+impl Identification {
+    fn is_in(self, receiver: Receiver) -> bool
+        ensures { result ≡ is_in self (number_of_receiver receiver) }
+    {
+        self.receiver == receiver as u64
     }
-}
 
-fn quiet(next: Identification) -> Stepped
-    ensures { result ≡ quiet next }
-{
-    reports(next, NONE)
-}
-
-// An outcome stops the timer.
-fn ends(i: Identification, outcome: u64) -> Stepped
-    ensures { result ≡ ends i outcome }
-{
-    let mut next = i;
-    next.timer = 0;
-    next.outcome = outcome;
-    reports(next, outcome)
-}
-
-// Got and sent come in either order, so both ask here whether the other was first.
-fn exchanged(i: Identification) -> Stepped
-    ensures { result ≡ exchanged i }
-{
-    let both = (i.got == table::ON) & (i.sent == table::ON);
-    if both {
-        return ends(i, COMPLETE);
+    fn ended_by(self, outcome: Report) -> bool
+        ensures { result ≡ ended_by self (number_of_report outcome) }
+    {
+        self.outcome == outcome as u64
     }
-    quiet(i)
-}
 
-// A refused step changes nothing.
-fn refused(i: Identification, refusal: u64) -> Stepped
-    ensures { result ≡ refused i refusal }
-{
-    Stepped {
-        next: i,
-        report: NONE,
-        refusal,
-    }
-}
-
-// A frame that starts inside another makes that one fail, and the count starts anew.
-fn on_soaf(i: Identification) -> Stepped
-    ensures { result ≡ on_soaf i }
-{
-    let receiver = i.receiver;
-    let begun = goes(i, RECEIVING, 0, table::OFF);
-    match receiver {
-        IDLE => quiet(begun),
-        RECEIVING => reports(begun, FAILED),
-        SPOILED => quiet(begun),
-        _ => quiet(i),
-    }
-}
-
-// The first dword alone fixes the type.
-fn type_after(i: Identification, dword: u64) -> u64
-    ensures { result ≡ type_after i dword }
-{
-    let first = i.count == 0;
-    let identify = dword / TYPE_PLACE % TYPE_VALUES == IDENTIFY_TYPE;
-    if first {
-        if identify {
-            return table::ON;
+    // The receiver goes to a state, with dwords counted and the type Identify or not.
+    fn goes(self, receiver: Receiver, count: u64, typed: u64) -> Identification
+        ensures { result ≡ goes self (number_of_receiver receiver) count typed }
+    {
+        Identification {
+            receiver: receiver as u64,
+            count,
+            typed,
+            ..self
         }
-        return table::OFF;
     }
-    i.typed
-}
 
-// A ninth dword is too many.
-fn counted(i: Identification, dword: u64) -> Stepped
-    ensures { result ≡ counted i dword }
-{
-    if FRAME_DWORDS <= i.count {
-        return reports(goes(i, SPOILED, 0, table::OFF), FAILED);
+    fn reports(self, report: Report) -> Stepped
+        ensures { result ≡ reports self (number_of_report report) }
+    {
+        Stepped {
+            next: self,
+            report: report as u64,
+            refusal: 0,
+        }
     }
-    quiet(goes(i, RECEIVING, i.count + 1, type_after(i, dword)))
-}
 
-// Outside a frame a data dword is ignored.
-fn on_data_dword(i: Identification, dword: u64) -> Stepped
-    ensures { result ≡ on_data_dword i dword }
-{
-    if i.receiver == RECEIVING {
-        return counted(i, dword);
+    fn quiet(self) -> Stepped
+        ensures { result ≡ quiet self }
+    {
+        self.reports(Report::None)
     }
-    quiet(i)
-}
 
-// The identify is got where eight dwords of that type came with a good CRC.
-fn frame_ends(i: Identification, crc: u64) -> Stepped
-    ensures { result ≡ frame_ends i crc }
-{
-    let whole = (i.count == FRAME_DWORDS) & (i.typed == table::ON) & (crc == CRC_GOOD);
-    let mut next = goes(i, COMPLETED, 0, table::OFF);
-    if whole {
-        next.got = table::ON;
-        return exchanged(next);
+    // An outcome stops the timer.
+    fn ends(self, outcome: Report) -> Stepped
+        ensures { result ≡ ends self (number_of_report outcome) }
+    {
+        let next = Identification {
+            timer: 0,
+            outcome: outcome as u64,
+            ..self
+        };
+        next.reports(outcome)
     }
-    reports(next, FAILED)
-}
 
-// A spoiled frame was reported when it was spoiled.
-fn on_eoaf(i: Identification, crc: u64) -> Stepped
-    ensures { result ≡ on_eoaf i crc }
-{
-    let receiver = i.receiver;
-    match receiver {
-        RECEIVING => frame_ends(i, crc),
-        SPOILED => quiet(goes(i, COMPLETED, 0, table::OFF)),
-        _ => quiet(i),
+    // Got and sent come in either order, so both ask here whether the other was first.
+    #[tactic(auto, unfolding(crate::specs::Step::exchanged))]
+    fn exchanged(self) -> Stepped
+        ensures { result ≡ exchanged self }
+    {
+        let both = (self.got == table::ON) & (self.sent == table::ON);
+        if both {
+            return self.ends(Report::Complete);
+        }
+        self.quiet()
     }
-}
 
-// Inside a frame, and once the identify is got, a HARD_RESET is ignored.
-fn on_hard_reset(i: Identification) -> Stepped
-    ensures { result ≡ on_hard_reset i }
-{
-    let ignored = (i.receiver == RECEIVING) | (i.receiver == SPOILED) | (i.got == table::ON);
-    if ignored {
-        return quiet(i);
+    // A refused step changes nothing.
+    fn refused(self, refusal: Refusal) -> Stepped
+        ensures { result ≡ refused self (number_of refusal) }
+    {
+        Stepped {
+            next: self,
+            report: Report::None as u64,
+            refusal: refusal as u64,
+        }
     }
-    ends(i, RESET_RECEIVED)
-}
 
-// Only our first frame counts; an identify got before needs no timer.
-fn on_own_frame_sent(i: Identification) -> Stepped
-    ensures { result ≡ on_own_frame_sent i }
-{
-    let got = i.got == table::ON;
-    let sent = i.sent == table::ON;
-    if sent {
-        return quiet(i);
+    // A frame that starts inside another makes that one fail, and the count starts anew.
+    #[tactic(auto, unfolding(crate::specs::Step::on_soaf))]
+    fn on_soaf(self) -> Stepped
+        ensures { result ≡ on_soaf self }
+    {
+        let begun = self.goes(Receiver::Receiving, 0, table::OFF);
+        if self.is_in(Receiver::Receiving) {
+            return begun.reports(Report::Failed);
+        }
+        if self.is_in(Receiver::Idle) | self.is_in(Receiver::Spoiled) {
+            return begun.quiet();
+        }
+        self.quiet()
     }
-    let mut next = i;
-    next.sent = table::ON;
-    if got {
-        next.timer = 0;
-        return exchanged(next);
-    }
-    next.timer = FULL_TIMER;
-    exchanged(next)
-}
 
-// A timer at 0 does not run, so it cannot run out again.
-fn on_tick(i: Identification) -> Stepped
-    ensures { result ≡ on_tick i }
-{
-    if i.timer == 0 {
-        return quiet(i);
+    // The first dword alone fixes the type.
+    fn type_after(self, dword: u32) -> u64
+        ensures { result ≡ type_after self dword }
+    {
+        if self.count == 0 {
+            return u64::from(dword / TYPE_PLACE % TYPE_VALUES == IDENTIFY_TYPE);
+        }
+        self.typed
     }
-    let left = i.timer - 1;
-    if left == 0 {
-        return ends(i, TIME_OUT);
-    }
-    let mut next = i;
-    next.timer = left;
-    quiet(next)
-}
 
-// The largest argument of an event; most have none.
-fn most(event: u64) -> u64
-    ensures { result ≡ most_of event }
-{
-    match event {
-        DATA_DWORD => MOST_DWORD,
-        EOAF => CRC_GOOD,
-        _ => 0,
+    // A ninth dword is too many.
+    #[tactic(auto, unfolding(crate::specs::Step::counted))]
+    fn counted(self, dword: u32) -> Stepped
+        ensures { result ≡ counted self dword }
+    {
+        if FRAME_DWORDS <= self.count {
+            return self
+                .goes(Receiver::Spoiled, 0, table::OFF)
+                .reports(Report::Failed);
+        }
+        let typed = self.type_after(dword);
+        self.goes(Receiver::Receiving, self.count + 1, typed)
+            .quiet()
     }
-}
 
-// Codes end at Enable; an argument above the event's largest is not known.
-fn known(event: u64, argument: u64) -> bool
-    ensures { result ≡ known_of event argument }
-{
-    (event <= ENABLE) & (argument <= most(event))
-}
-
-// What an event does; total, so that it needs no valid state.
-fn moved(i: Identification, event: u64, argument: u64) -> Stepped
-    ensures { result ≡ move_of i event argument }
-{
-    // After an outcome only Enable does anything.
-    if (i.outcome != NONE) & (event != ENABLE) {
-        return quiet(i);
+    // Outside a frame a data dword is ignored.
+    #[tactic(auto, unfolding(crate::specs::Step::on_data_dword))]
+    fn on_data_dword(self, dword: u32) -> Stepped
+        ensures { result ≡ on_data_dword self dword }
+    {
+        if self.is_in(Receiver::Receiving) {
+            return self.counted(dword);
+        }
+        self.quiet()
     }
-    match event {
-        SOAF => on_soaf(i),
-        DATA_DWORD => on_data_dword(i, argument),
-        EOAF => on_eoaf(i, argument),
-        HARD_RESET => on_hard_reset(i),
-        OTHER_PRIMITIVE => quiet(i),
-        OWN_FRAME_SENT => on_own_frame_sent(i),
-        TICK => on_tick(i),
-        ENABLE => quiet(fresh()),
-        8..=18446744073709551615 => quiet(i),
+
+    // The identify is got where eight dwords of that type came with a good CRC.
+    #[tactic(auto, unfolding(crate::specs::Step::frame_ends))]
+    fn frame_ends(self, crc_good: bool) -> Stepped
+        ensures { result ≡ frame_ends self (flag_of crc_good) }
+    {
+        let whole = (self.count == FRAME_DWORDS) & (self.typed == table::ON) & crc_good;
+        let ended = self.goes(Receiver::Completed, 0, table::OFF);
+        if whole {
+            let got = Identification {
+                got: table::ON,
+                ..ended
+            };
+            return got.exchanged();
+        }
+        ended.reports(Report::Failed)
+    }
+
+    // A spoiled frame was reported when it was spoiled.
+    #[tactic(auto, unfolding(crate::specs::Step::on_eoaf))]
+    fn on_eoaf(self, crc_good: bool) -> Stepped
+        ensures { result ≡ on_eoaf self (flag_of crc_good) }
+    {
+        if self.is_in(Receiver::Receiving) {
+            return self.frame_ends(crc_good);
+        }
+        if self.is_in(Receiver::Spoiled) {
+            return self.goes(Receiver::Completed, 0, table::OFF).quiet();
+        }
+        self.quiet()
+    }
+
+    // Inside a frame, and once the identify is got, a HARD_RESET is ignored.
+    #[tactic(auto, unfolding(crate::specs::Step::on_hard_reset))]
+    fn on_hard_reset(self) -> Stepped
+        ensures { result ≡ on_hard_reset self }
+    {
+        let in_frame = self.is_in(Receiver::Receiving) | self.is_in(Receiver::Spoiled);
+        if in_frame | (self.got == table::ON) {
+            return self.quiet();
+        }
+        self.ends(Report::ResetReceived)
+    }
+
+    // Only our first frame counts; an identify got before needs no timer.
+    #[tactic(auto, unfolding(crate::specs::Step::on_own_frame_sent))]
+    fn on_own_frame_sent(self) -> Stepped
+        ensures { result ≡ on_own_frame_sent self }
+    {
+        if self.sent == table::ON {
+            return self.quiet();
+        }
+        let timer = if self.got == table::ON { 0 } else { FULL_TIMER };
+        let next = Identification {
+            timer,
+            sent: table::ON,
+            ..self
+        };
+        next.exchanged()
+    }
+
+    // A timer at 0 does not run, so it cannot run out again.
+    #[tactic(auto, unfolding(crate::specs::Step::on_tick))]
+    fn on_tick(self) -> Stepped
+        ensures { result ≡ on_tick self }
+    {
+        match self.timer {
+            0 => self.quiet(),
+            1 => self.ends(Report::TimeOut),
+            timer => {
+                let next = Identification {
+                    timer: timer - 1,
+                    ..self
+                };
+                next.quiet()
+            }
+        }
+    }
+
+    // What an event does; total, so that it needs no valid state.
+    #[tactic(auto, unfolding(crate::specs::Step::move_of))]
+    fn moved(self, event: Event) -> Stepped
+        ensures { result ≡ move_of self (code_of event) (argument_of event) }
+    {
+        match event {
+            Event::Enable => fresh().quiet(),
+            // After an outcome only Enable does anything.
+            _ if !self.ended_by(Report::None) => self.quiet(),
+            Event::Soaf => self.on_soaf(),
+            Event::DataDword(dword) => self.on_data_dword(dword),
+            Event::Eoaf { crc_good } => self.on_eoaf(crc_good),
+            Event::HardReset => self.on_hard_reset(),
+            Event::OtherPrimitive => self.quiet(),
+            Event::OwnFrameSent => self.on_own_frame_sent(),
+            Event::Tick => self.on_tick(),
+        }
     }
 }
 
 // One event: the state is judged first, then the event.
+#[tactic(auto, unfolding(crate::specs::Step::step_of))]
 pub fn step(i: Identification, event: u64, argument: u64) -> Stepped
     ensures { Steps i event argument result }
 {
-    if valid(i) {
-        if known(event, argument) {
-            moved(i, event, argument)
-        } else {
-            refused(i, table::BAD_EVENT)
-        }
-    } else {
-        refused(i, table::BAD_STATE)
+    if !valid(i) {
+        return i.refused(Refusal::BadState);
+    }
+    match Event::try_from((event, argument)) {
+        Ok(event) => i.moved(event),
+        Err(refusal) => i.refused(refusal),
     }
 }
