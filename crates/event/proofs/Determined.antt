@@ -12,4 +12,5 @@ determined =
       argument_range = λ code i. by_equation _;
       open_known = λ o. by_equation _;
       open_of = λ e. by_equation _;
+      tx_open_of = λ o. by_equation _;
     }

@@ -9,6 +9,7 @@ mod ticks;
 
 ghost use Rattle.phy.specs.Promises.{Moves, Steps};
 
+pub use event::NO_OPEN;
 use event::{
     ACCEPT_OPENS, AIP_RECEIVED, BREAK_RECEIVED, CANCEL_OPEN, CLOSE_CONNECTION, CLOSE_RECEIVED,
     Event, HARD_RESET, OPEN_ACCEPT_RECEIVED, OPEN_RECEIVED, OPEN_REJECT_RECEIVED, Open,
@@ -20,7 +21,7 @@ pub use names::{
     ANSWER_PATHWAY_BLOCKED, ANSWER_PORT_LAYER_REQUEST, ANSWER_PROTOCOL, ANSWER_RATE, ANSWER_RETRY,
     ANSWER_STP_BUSY, ANSWER_TERMINATED, ANSWER_WRONG_DESTINATION, BEND, L0, L3, P1, P2,
 };
-pub use shapes::{NO_OPEN, fresh};
+pub use shapes::fresh;
 pub use state::valid;
 pub use ticks::last_tick;
 

@@ -6,7 +6,7 @@ ghost use Rattle.phy.specs.Moves.{to_idle, open_by_link, on_tx_open, on_cancel_o
 use crate::names::*;
 use crate::shapes::*;
 use crate::{Phy, Settings, Stepped};
-use event::{Event, Open, SMP, open_of};
+use event::{Event, Open, SMP};
 use table::{OFF, ON};
 
 // Entering L0: a request that waits is answered, with the reason where one was kept; a connection is over.
@@ -45,7 +45,7 @@ pub(crate) fn on_tx_open(p: Phy, e: Event) -> Stepped
     ensures { result ≡ on_tx_open p e }
 {
     if p.port == P1 {
-        return open_by_link(p, open_of(e));
+        return open_by_link(p, Open::from(e));
     }
     refused(p, table::BUSY)
 }

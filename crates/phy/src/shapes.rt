@@ -6,18 +6,8 @@ ghost use Rattle.phy.specs.Promises.{StartsFresh};
 
 use crate::names::{L0, L2, P1, P3, P4};
 use crate::{Phy, Settings, Stepped, Waited};
-use event::Open;
+use event::{NO_OPEN, Open};
 use table::OFF;
-
-// No Open: what a step answers that has no answer.
-pub const NO_OPEN: Open = Open {
-    destination: 0,
-    protocol: 0,
-    rate: 0,
-    tag: 0,
-    blockedCount: 0,
-    wait: 0,
-};
 
 // A request that waits, or none, with no connection and no OPEN from the far end.
 pub(crate) fn requesting(

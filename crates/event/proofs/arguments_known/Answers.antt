@@ -8,11 +8,11 @@ use Rattle.event.proofs.arguments_known.Goals as goal
 
 pub returns-in-1 : goal.returns-in-1
 unfolding arguments_known argument_range
-returns-in-1 c = simp (c.in-1.is, leb-zero, le-leb c.args.a 18446744073709551615 (omega arith))
+returns-in-1 c = simp (c.in-1.is, leb-zero, le-leb c.args.e.first 18446744073709551615 (omega arith))
 
 pub returns-in-7 : goal.returns-in-7
 unfolding arguments_known argument_range
-returns-in-7 c = simp (c.in-7.is, leb-zero, le-leb c.args.a 18446744073709551615 (omega arith))
+returns-in-7 c = simp (c.in-7.is, leb-zero, le-leb c.args.e.first 18446744073709551615 (omega arith))
 
 pub returns-in-9 : goal.returns-in-9
 unfolding arguments_known argument_range

@@ -4,4 +4,4 @@ use Rattle.event.proofs.open_known.Goals as goal
 
 pub returns : goal.returns
 unfolding open_known
-returns c = c.arguments_known.ensures
+returns c = simp (c.arguments_known.ensures, c.from.ensures)

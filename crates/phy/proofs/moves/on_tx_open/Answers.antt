@@ -5,7 +5,7 @@ use Rattle.phy.proofs.moves.on_tx_open.Goals as goal
 
 pub returns-then-p-eq-P1 : goal.returns-then-p-eq-P1
 unfolding on_tx_open
-returns-then-p-eq-P1 c = simp (c.open_by_link.ensures, c.open_of.ensures, eq-eqb _ _ c.if-p-eq-P1.true)
+returns-then-p-eq-P1 c = simp (c.open_by_link.ensures, c.from.ensures, eq-eqb _ _ c.if-p-eq-P1.true)
 
 pub returns : goal.returns
 unfolding on_tx_open
