@@ -2,11 +2,15 @@
 // of arguments, how many each event has and each one's range.
 #![tactic(auto)]
 
+mod code;
+
 ghost use Rattle.std.specs.Prelude.{◌≡◌, ◌&&◌, eqb, leb, [], ◌∷◌};
 ghost use Rattle.table.specs.Choice.{pick};
 ghost use Rattle.event.specs.Names.{time_stamp, most_counter};
 ghost use Rattle.event.specs.Table.{◌to◌, tx_open_arguments, open_arguments, range_at, arguments_known};
 ghost use Rattle.event.specs.Promises.{CountsArguments, GivesRange, TellsCodeInTrace, TellsKnown, TellsKnownInTrace, TellsOpenKnown, MakesOpen, MakesTxOpen};
+
+pub use code::{Code, UnknownCode};
 
 // Protocols.
 pub const SMP: u64 = 0;
@@ -183,6 +187,7 @@ fn other_most(code: u64) -> u64
 }
 
 // How many arguments an event has: of those without an arm the time stamp alone has one.
+#[tactic(auto, unfolding(crate::specs::Table::argument_count))]
 pub fn argument_count(code: u64) -> u64
     ensures { CountsArguments code result }
 {
@@ -262,6 +267,7 @@ fn only_range(most: u64, i: u64) -> Range
 }
 
 // The range of an event's argument, counted from 0.
+#[tactic(auto, unfolding(crate::specs::Table::argument_range))]
 pub fn argument_range(code: u64, i: u64) -> Range
     ensures { GivesRange code i result }
 {
@@ -293,6 +299,7 @@ fn only_known(most: u64, e: Event) -> bool
 }
 
 // Whether an event's arguments are in the ranges of its code; any 64-bit number is an address, and is not tested.
+#[tactic(auto, unfolding(crate::specs::Table::arguments_known, crate::specs::Table::argument_range))]
 fn arguments_known(e: Event) -> bool
     ensures { result ≡ arguments_known e.code e.first e.second e.third e.fourth e.fifth e.sixth }
 {
@@ -317,6 +324,7 @@ fn arguments_known(e: Event) -> bool
 }
 
 // Whether a phy knows an event; a time stamp is none of its events.
+#[tactic(auto, unfolding(crate::specs::Table::known_of))]
 pub fn known(e: Event) -> bool
     ensures { TellsKnown e result }
 {
@@ -327,6 +335,7 @@ pub fn known(e: Event) -> bool
 }
 
 // Whether an event may stand in a trace.
+#[tactic(auto, unfolding(crate::specs::Table::known_in_trace))]
 pub fn known_in_trace(e: Event) -> bool
     ensures { TellsKnownInTrace e result }
 {
@@ -334,6 +343,7 @@ pub fn known_in_trace(e: Event) -> bool
 }
 
 // An Open that is kept has its arguments in the ranges of a Tx Open.
+#[tactic(auto, unfolding(crate::specs::Table::open_known))]
 pub fn open_known(o: Open) -> bool
     ensures { TellsOpenKnown o result }
 {
