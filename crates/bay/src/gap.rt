@@ -1,17 +1,17 @@
 // A gap in two legs. A link that a tick can move is in L1 or L4, then in L5, then at rest; or it is moved
 // once. So no gap has a third leg, and none of them goes tick by tick.
-ghost use Rattle.std.specs.Prelude.{◌≡◌, ◌-◌, ◌≤◌, true};
+ghost use Rattle.std.specs.Prelude.{◌≡◌, ◌≤◌, true};
 ghost use Rattle.event.specs.Names.{most_counter};
-ghost use Rattle.phy.specs.Shapes.{quiet};
 ghost use Rattle.bay.specs.State.{valid_of};
 ghost use Rattle.bay.specs.Gap.{gap_of};
 ghost use Rattle.bay.specs.Step.{passed, ticks_to, on_stamp};
-ghost use Rattle.bay.specs.Legs.{Ready, waited_later, later as legs_later, leg_of};
+ghost use Rattle.bay.specs.Legs.{Ready, waited_later, later, leg_of};
 
 use crate::reports::both_legs;
 use crate::wait::waited_for;
 use crate::{Bay, Leg, Stepped};
-use phy::{NO_OPEN, Phy, Waited};
+use event::Open;
+use phy::{L0, L3, P2, Phy, Waited};
 use table::ON;
 
 // As far as a counter has moved; it goes round past 4,294,967,295. The first stamp only sets the base.
@@ -25,93 +25,89 @@ fn ticks_to(bay: Bay, counter: u64) -> u64
     0
 }
 
-// A timer after n ticks, at 0 at the least.
-fn fallen(timer: u64, n: u64) -> u64
-    ensures { result ≡ timer - n }
-{
-    if timer <= n {
-        return 0;
-    }
-    timer - n
+// Ticks that pass for a phy: it is valid, and there are no more of them than a counter can move.
+#[derive(Clone, Copy)]
+struct Stretch<'a> {
+    phy: &'a Phy,
+    ticks: u64,
+    ghost ready: { Ready phy.now ticks },
 }
 
-// How long a request has waited: only one in P2 waits longer.
-fn waited_later(p: Phy, n: u64) -> Waited
-    requires { Ready p n }
-    ensures { result ≡ waited_later p n }
-{
-    let request = p.request;
-    let waited = Waited {
-        wait: request.wait,
-        part: p.part,
-    };
-    if p.port == phy::P2 {
-        return waited_for(waited, n);
-    }
-    waited
-}
-
-// The phy after ticks that do not move its link.
-fn later(p: Phy, n: u64) -> Phy
-    requires { Ready p n }
-    ensures { result ≡ legs_later p n }
-{
-    let waited = waited_later(p, n);
-    let mut next = p;
-    next.timer = fallen(p.timer, n);
-    next.request.wait = waited.wait;
-    next.part = waited.part;
-    next
-}
-
-// A tick that changes nothing but what `later` says.
-fn still(p: Phy) -> phy::Stepped
-    ensures { result ≡ quiet p }
-{
-    phy::Stepped {
-        next: p,
-        answered: NO_OPEN,
-        answer: 0,
-        notice: 0,
-        sent: 0,
-        refusal: 0,
-    }
-}
-
-// Up to the tick that moves the link, or all n ticks where none of them does.
-fn leg_of(p: Phy, n: u64) -> Leg
-    requires { Ready p n }
-    ensures { result ≡ leg_of p n }
-{
-    let link = p.link;
-    let before = fallen(p.timer, 1);
-    if (link == phy::L0) | (link == phy::L3) | (n <= before) {
-        return Leg {
-            stepped: still(later(p, n)),
-            ticks: n,
+impl Stretch<'_> {
+    // How long the request has waited at its end: only one in P2 waits longer.
+    fn waited(self) -> Waited
+        ensures { result ≡ waited_later self.entry.phy.now self.entry.ticks }
+    {
+        let waited = Waited {
+            wait: self.phy.request.wait,
+            part: self.phy.part,
         };
+        if self.phy.port == P2 {
+            return waited_for(waited, self.ticks);
+        }
+        waited
     }
-    let last = before + 1;
-    Leg {
-        stepped: phy::last_tick(later(p, last)),
-        ticks: last,
+
+    // The phy at its end, where no tick moves the link.
+    #[tactic(auto, unfolding(crate::specs::Legs::later))]
+    fn end(self) -> Phy
+        ensures { result ≡ later self.entry.phy.now self.entry.ticks }
+    {
+        let waited = self.waited();
+        Phy {
+            timer: self.phy.timer.saturating_sub(self.ticks),
+            request: Open {
+                wait: waited.wait,
+                ..self.phy.request
+            },
+            part: waited.part,
+            ..*self.phy
+        }
+    }
+
+    // Up to the tick that moves the link, or all of it where none does.
+    fn leg(self) -> Leg
+        ensures { result ≡ leg_of self.entry.phy.now self.entry.ticks }
+    {
+        let phy = self.phy;
+        let before = phy.timer.saturating_sub(1);
+        if (phy.link == L0) | (phy.link == L3) | (self.ticks <= before) {
+            return Leg {
+                stepped: self.end().quiet(),
+                ticks: self.ticks,
+            };
+        }
+        let last = Stretch {
+            phy,
+            ticks: before + 1,
+        };
+        Leg {
+            stepped: phy::last_tick(last.end()),
+            ticks: last.ticks,
+        }
+    }
+
+    // All of it, up to a counter.
+    fn pass(self, counter: u64) -> Stepped
+        ensures { result ≡ passed (gap_of self.entry.phy.now self.entry.ticks) counter }
+    {
+        let first = self.leg();
+        let rest = Stretch {
+            phy: &first.stepped.next,
+            ticks: self.ticks - first.ticks,
+        };
+        both_legs(first, rest.leg(), counter)
     }
 }
 
-// All n ticks up to a counter.
-fn pass(p: Phy, n: u64, counter: u64) -> Stepped
-    requires { Ready p n }
-    ensures { result ≡ passed (gap_of p n) counter }
-{
-    let first = leg_of(p, n);
-    let stepped = first.stepped;
-    let second = leg_of(stepped.next, n - first.ticks);
-    both_legs(first, second, counter)
-}
-
+#[tactic(auto, unfolding(crate::specs::Step::on_stamp))]
 pub(crate) fn on_stamp(bay: Bay, counter: u64) -> Stepped
     requires { (valid_of bay ≡ true) × (counter ≤ most_counter) }
     ensures { result ≡ on_stamp bay counter }
 {
-    pass(bay.phy, ticks_to(bay, counter), counter)
+    let stretch = Stretch {
+        phy: &bay.phy,
+        ticks: ticks_to(bay, counter),
+    };
+    stretch.pass(counter)
 }

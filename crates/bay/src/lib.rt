@@ -11,12 +11,14 @@ ghost use Rattle.bay.specs.Promises.{TakesStamp, Moves, Steps};
 
 use event::{Event, MOST_COUNTER, Open, TIME_STAMP};
 use phy::Phy;
-pub use reports::last_notice;
+pub use reports::{NO_REPORT, last_notice};
 pub use state::{fresh, valid};
+use table::Refusal;
 
-// The base is the counter of the last stamp; `baseSet` is a flag, that one has come.
+// The base is the counter of the last stamp; `baseSet` is a flag, that one has come. They are numbers and no Option,
+// since the record is the C interface's.
 #[repr(C)]
-#[derive(Clone, Copy)]
+#[derive(Clone, Copy, Debug, PartialEq, Eq)]
 pub struct Bay {
     pub phy: Phy,
     pub base: u64,
@@ -25,7 +27,7 @@ pub struct Bay {
 
 // A code, and the tick of its gap at which it came, counted from 1; 0 where no gap has passed.
 #[repr(C)]
-#[derive(Clone, Copy)]
+#[derive(Clone, Copy, Debug, PartialEq, Eq)]
 pub struct Report {
     pub code: u64,
     pub tick: u64,
@@ -34,7 +36,7 @@ pub struct Report {
 // What a step gives: the bay, an answer with the arguments of its Open, at most two notices, a primitive
 // sent, each with its tick, and the number of a refusal; each 0 where there is none.
 #[repr(C)]
-#[derive(Clone, Copy)]
+#[derive(Clone, Copy, Debug, PartialEq, Eq)]
 pub struct Stepped {
     pub next: Bay,
     pub answered: Open,
@@ -60,19 +62,20 @@ pub fn stamped(bay: Bay, counter: u64) -> Stepped
         if counter <= MOST_COUNTER {
             return gap::on_stamp(bay, counter);
         }
-        return reports::refused(bay, table::BAD_EVENT);
+        return bay.refused(Refusal::BadEvent);
     }
-    reports::refused(bay, table::BAD_STATE)
+    bay.refused(Refusal::BadState)
 }
 
 // The move of an event, for whoever knows that the bay is valid and the event may stand in a trace.
+#[tactic(auto, unfolding(crate::specs::Step::move_of))]
 pub fn moved(bay: Bay, event: Event) -> Stepped
     ensures { Moves bay event result }
 {
     if event.code == TIME_STAMP {
         return stamped(bay, event.first);
     }
-    reports::at_once(bay, phy::moved(bay.phy, event))
+    bay.at_once(phy::moved(bay.phy, event))
 }
 
 // Any bay and any event: what is no time stamp, or a wrong one, the phy judges.
@@ -83,7 +86,7 @@ pub fn step(bay: Bay, event: Event) -> Stepped
         return stamped(bay, event.first);
     }
     if state::valid_clock(bay) {
-        return reports::at_once(bay, phy::step(bay.phy, event));
+        return bay.at_once(phy::step(bay.phy, event));
     }
-    reports::refused(bay, table::BAD_STATE)
+    bay.refused(Refusal::BadState)
 }

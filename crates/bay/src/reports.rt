@@ -1,89 +1,89 @@
 // The words of a step: what it reports.
 ghost use Rattle.std.specs.Prelude.{◌≡◌, ◌+◌, ◌≤◌, ◌==◌};
 ghost use Rattle.table.specs.Choice.{pick};
+ghost use Rattle.table.specs.Refusals.{number_of};
 ghost use Rattle.event.specs.Names.{most_counter};
-ghost use Rattle.bay.specs.Step.{at_once, refused as step_refused};
+ghost use Rattle.bay.specs.Gap.{report};
+ghost use Rattle.bay.specs.Step.{at_once, refused};
 ghost use Rattle.bay.specs.Legs.{report_at, first_of, second_of, both_legs};
 ghost use Rattle.bay.specs.Promises.{GivesLast};
 
 use crate::{Bay, Leg, Report, Stepped};
-use event::Open;
-use phy::NO_OPEN;
-use table::ON;
+use event::{NO_OPEN, Open};
+use table::{ON, Refusal};
 
-const NO_REPORT: Report = Report { code: 0, tick: 0 };
+pub const NO_REPORT: Report = Report { code: 0, tick: 0 };
 
-// What a phy's step gave: no gap has passed, and the base is kept.
-pub(crate) fn at_once(bay: Bay, r: phy::Stepped) -> Stepped
-    ensures { result ≡ at_once bay r }
-{
-    let phy = r.next;
-    let answered = r.answered;
-    Stepped {
-        next: Bay {
-            phy,
-            base: bay.base,
-            baseSet: bay.baseSet,
-        },
-        answered,
-        answer: Report {
-            code: r.answer,
-            tick: 0,
-        },
-        notice: Report {
-            code: r.notice,
-            tick: 0,
-        },
-        secondNotice: NO_REPORT,
-        sent: Report {
-            code: r.sent,
-            tick: 0,
-        },
-        refusal: r.refusal,
+impl Report {
+    fn new(code: u64, tick: u64) -> Report
+        ensures { result ≡ report code tick }
+    {
+        Report { code, tick }
+    }
+
+    // Where the code is 0 the tick is too.
+    fn or_none(self) -> Report
+        ensures { result ≡ report_at self.code self.tick }
+    {
+        if self.code == 0 {
+            return NO_REPORT;
+        }
+        self
+    }
+
+    // The first of two whose code is not 0.
+    fn or(self, later: Report) -> Report
+        ensures { result ≡ first_of self.code self.tick later.code later.tick }
+    {
+        if self.code == 0 {
+            return later.or_none();
+        }
+        self
+    }
+
+    // The second of two, where neither code is 0.
+    fn and(self, later: Report) -> Report
+        ensures { result ≡ second_of self.code later.code later.tick }
+    {
+        if self.code == 0 {
+            return NO_REPORT;
+        }
+        later.or_none()
     }
 }
 
-pub(crate) fn refused(bay: Bay, refusal: u64) -> Stepped
-    ensures { result ≡ step_refused bay refusal }
-{
-    Stepped {
-        next: bay,
-        answered: NO_OPEN,
-        answer: NO_REPORT,
-        notice: NO_REPORT,
-        secondNotice: NO_REPORT,
-        sent: NO_REPORT,
-        refusal,
+impl Bay {
+    // What a phy's step gave: no gap has passed, and the base is kept.
+    pub(crate) fn at_once(self, r: phy::Stepped) -> Stepped
+        ensures { result ≡ at_once self r }
+    {
+        Stepped {
+            next: Bay {
+                phy: r.next,
+                ..self
+            },
+            answered: r.answered,
+            answer: Report::new(r.answer, 0),
+            notice: Report::new(r.notice, 0),
+            secondNotice: NO_REPORT,
+            sent: Report::new(r.sent, 0),
+            refusal: r.refusal,
+        }
     }
-}
 
-fn report_at(code: u64, at: u64) -> Report
-    ensures { result ≡ report_at code at }
-{
-    if code == 0 {
-        return NO_REPORT;
+    pub(crate) fn refused(self, refusal: Refusal) -> Stepped
+        ensures { result ≡ refused self (number_of refusal) }
+    {
+        Stepped {
+            next: self,
+            answered: NO_OPEN,
+            answer: NO_REPORT,
+            notice: NO_REPORT,
+            secondNotice: NO_REPORT,
+            sent: NO_REPORT,
+            refusal: refusal.into(),
+        }
     }
-    Report { code, tick: at }
-}
-
-// The first of two codes that is not 0.
-fn first_of(code: u64, at: u64, later: u64, then: u64) -> Report
-    ensures { result ≡ first_of code at later then }
-{
-    if code == 0 {
-        return report_at(later, then);
-    }
-    Report { code, tick: at }
-}
-
-// The second of them, where neither is 0.
-fn second_of(code: u64, later: u64, then: u64) -> Report
-    ensures { result ≡ second_of code later then }
-{
-    if code == 0 {
-        return NO_REPORT;
-    }
-    report_at(later, then)
 }
 
 // The Open of the first answer.
@@ -105,18 +105,19 @@ pub(crate) fn both_legs(a: Leg, b: Leg, counter: u64) -> Stepped
     let second = b.stepped;
     let at = a.ticks;
     let then = at + b.ticks;
-    let phy = second.next;
+    let notice = Report::new(first.notice, at);
+    let later_notice = Report::new(second.notice, then);
     Stepped {
         next: Bay {
-            phy,
+            phy: second.next,
             base: counter,
             baseSet: ON,
         },
         answered: answered_of(first, second),
-        answer: first_of(first.answer, at, second.answer, then),
-        notice: first_of(first.notice, at, second.notice, then),
-        secondNotice: second_of(first.notice, second.notice, then),
-        sent: first_of(first.sent, at, second.sent, then),
+        answer: Report::new(first.answer, at).or(Report::new(second.answer, then)),
+        notice: notice.or(later_notice),
+        secondNotice: notice.and(later_notice),
+        sent: Report::new(first.sent, at).or(Report::new(second.sent, then)),
         refusal: 0,
     }
 }

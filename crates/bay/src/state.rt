@@ -15,6 +15,7 @@ pub(crate) fn valid_clock(bay: Bay) -> bool
     (bay.baseSet <= ON) & ((set & (bay.base <= MOST_COUNTER)) | (!set & (bay.base == 0)))
 }
 
+#[tactic(auto, unfolding(crate::specs::State::valid_of))]
 pub fn valid(bay: Bay) -> bool
     ensures { TellsValid bay result }
 {

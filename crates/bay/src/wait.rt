@@ -2,7 +2,7 @@
 ghost use Rattle.std.specs.Prelude.{◌≡◌, ◌≤◌};
 ghost use Rattle.event.specs.Names.{most_wait, most_counter};
 ghost use Rattle.phy.specs.Names.{most_part};
-ghost use Rattle.ledger.specs.Wait.{meant as wait_meant, in_field, waited_for};
+ghost use Rattle.ledger.specs.Wait.{meant, in_field, waited_for};
 
 use event::MOST_WAIT;
 use phy::{BEND, Waited};
@@ -11,9 +11,10 @@ use phy::{BEND, Waited};
 const MILLISECOND: u64 = 1000;
 
 // The microseconds that a value of the wait means.
+#[tactic(auto, unfolding(ledger::specs::Wait::meant))]
 fn meant(value: u64) -> u64
     requires { value ≤ most_wait }
-    ensures { result ≡ wait_meant value }
+    ensures { result ≡ meant value }
 {
     if value < BEND {
         return value;
@@ -22,6 +23,7 @@ fn meant(value: u64) -> u64
 }
 
 // The wait and its part that mean so many microseconds.
+#[tactic(auto, unfolding(ledger::specs::Wait::in_field))]
 fn in_field(microseconds: u64) -> Waited
     ensures { result ≡ in_field microseconds }
 {
@@ -38,6 +40,7 @@ fn in_field(microseconds: u64) -> Waited
     }
 }
 
+#[tactic(auto, using(ledger::proofs::Wait::meant_few), unfolding(ledger::specs::Wait::waited_for))]
 pub(crate) fn waited_for(w: Waited, n: u64) -> Waited
     requires { (w.wait ≤ most_wait) × (w.part ≤ most_part) × (n ≤ most_counter) }
     ensures { result ≡ waited_for w n }

@@ -1,4 +1,3 @@
 pub mod Ranges
-pub mod Others
 pub mod InTrace
 pub mod Determined

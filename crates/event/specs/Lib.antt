@@ -1,4 +1,5 @@
 pub mod Names
 pub mod Table
+pub mod Codes
 pub mod Promises
 pub mod Laws

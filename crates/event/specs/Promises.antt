@@ -1,10 +1,17 @@
 -- What each public function promises, cited by its `ensures` and by `Determined` in Laws.
-use Rattle.std.specs.Prelude.{ℕ, Bool, ◌≡◌}
+use Rattle.std.specs.Prelude.{ℕ, Bool, ◌≡◌, Result}
 use Rattle.event.specs.Table.{argument_count, argument_range, code_in_trace, known_of, known_in_trace, open_known}
-use Rattle.event.specs.Table.{open_of}
+use Rattle.event.specs.Table.{open_of, tx_open_of}
+use Rattle.event.specs.Codes.{code_of}
 use Rattle.event.specs.declared.Range.{Range}
+use Rattle.event.specs.declared.code.Code.{Code}
+use Rattle.event.specs.declared.code.UnknownCode.{UnknownCode}
 use Rattle.event.specs.declared.Event.{Event}
 use Rattle.event.specs.declared.Open.{Open}
+
+-- the name of a code, or that it has none
+abbrev pub NamesCode : ℕ → Result Code UnknownCode → Type 0
+NamesCode n r = r ≡ code_of n
 
 -- `known` of an event
 abbrev pub TellsKnown : Event → Bool → Type 0
@@ -30,6 +37,10 @@ GivesRange code i r = r ≡ argument_range code i
 abbrev pub TellsOpenKnown : Open → Bool → Type 0
 TellsOpenKnown o r = r ≡ open_known o
 
--- `open_of` an event
+-- the Open from an event
 abbrev pub MakesOpen : Event → Open → Type 0
 MakesOpen e r = r ≡ open_of e
+
+-- the Tx Open from an Open
+abbrev pub MakesTxOpen : Open → Event → Type 0
+MakesTxOpen o r = r ≡ tx_open_of o

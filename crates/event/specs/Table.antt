@@ -124,6 +124,10 @@ open_of e =
       wait = e.sixth;
     }
 
+-- the Tx Open of an Open
+abbrev pub tx_open_of : Open → Event
+tx_open_of o = event_of tx_open (o.destination ∷ o.protocol ∷ o.rate ∷ o.tag ∷ o.blockedCount ∷ o.wait ∷ [])
+
 -- an Open that is kept has its arguments in the ranges of a Tx Open
 unfoldable pub open_known : Open → Bool
 open_known o = arguments_known tx_open o.destination o.protocol o.rate o.tag o.blockedCount o.wait

@@ -2,11 +2,15 @@
 // of arguments, how many each event has and each one's range.
 #![tactic(auto)]
 
+mod code;
+
 ghost use Rattle.std.specs.Prelude.{◌≡◌, ◌&&◌, eqb, leb, [], ◌∷◌};
 ghost use Rattle.table.specs.Choice.{pick};
 ghost use Rattle.event.specs.Names.{time_stamp, most_counter};
 ghost use Rattle.event.specs.Table.{◌to◌, tx_open_arguments, open_arguments, range_at, arguments_known};
-ghost use Rattle.event.specs.Promises.{CountsArguments, GivesRange, TellsCodeInTrace, TellsKnown, TellsKnownInTrace, TellsOpenKnown, MakesOpen};
+ghost use Rattle.event.specs.Promises.{CountsArguments, GivesRange, TellsCodeInTrace, TellsKnown, TellsKnownInTrace, TellsOpenKnown, MakesOpen, MakesTxOpen};
+
+pub use code::{Code, UnknownCode};
 
 // Protocols.
 pub const SMP: u64 = 0;
@@ -65,7 +69,7 @@ pub const MOST_ADDRESS: u64 = 18446744073709551615;
 
 // The six arguments of a Tx Open: a request while it waits, and what its answer carries.
 #[repr(C)]
-#[derive(Clone, Copy)]
+#[derive(Clone, Copy, Debug, PartialEq, Eq)]
 pub struct Open {
     pub destination: u64,
     pub protocol: u64,
@@ -75,9 +79,10 @@ pub struct Open {
     pub wait: u64,
 }
 
-// A code and six arguments in the paper's order; those that an event lacks are zero.
+// A code and six arguments in the paper's order; those that an event lacks are zero. The code is a number, since
+// the record is the C interface's: a caller hands in any.
 #[repr(C)]
-#[derive(Clone, Copy)]
+#[derive(Clone, Copy, Debug, PartialEq, Eq)]
 pub struct Event {
     pub code: u64,
     pub first: u64,
@@ -90,14 +95,68 @@ pub struct Event {
 
 // An event on a shelf: the number of the phy that it is for, and the event.
 #[repr(C)]
-#[derive(Clone, Copy)]
+#[derive(Clone, Copy, Debug, PartialEq, Eq)]
 pub struct ShelfEvent {
     pub number: u64,
     pub event: Event,
 }
 
+// No Open: every argument is zero.
+pub const NO_OPEN: Open = Open {
+    destination: 0,
+    protocol: 0,
+    rate: 0,
+    tag: 0,
+    blockedCount: 0,
+    wait: 0,
+};
+
+// No event: no event has the code 0.
+pub const NO_EVENT: Event = Event {
+    code: 0,
+    first: 0,
+    second: 0,
+    third: 0,
+    fourth: 0,
+    fifth: 0,
+    sixth: 0,
+};
+
+// The Open that the arguments of a Tx Open make.
+impl From<Event> for Open {
+    ghost from_gives = { MakesOpen };
+
+    fn from(e: Event) -> Open {
+        Open {
+            destination: e.first,
+            protocol: e.second,
+            rate: e.third,
+            tag: e.fourth,
+            blockedCount: e.fifth,
+            wait: e.sixth,
+        }
+    }
+}
+
+// The Tx Open of an Open.
+impl From<Open> for Event {
+    ghost from_gives = { MakesTxOpen };
+
+    fn from(o: Open) -> Event {
+        Event {
+            code: TX_OPEN,
+            first: o.destination,
+            second: o.protocol,
+            third: o.rate,
+            fourth: o.tag,
+            fifth: o.blockedCount,
+            sixth: o.wait,
+        }
+    }
+}
+
 // An argument's range, both ends included.
-#[derive(Clone, Copy)]
+#[derive(Clone, Copy, Debug, PartialEq, Eq)]
 pub struct Range {
     pub least: u64,
     pub most: u64,
@@ -128,6 +187,7 @@ fn other_most(code: u64) -> u64
 }
 
 // How many arguments an event has: of those without an arm the time stamp alone has one.
+#[tactic(auto, unfolding(crate::specs::Table::argument_count))]
 pub fn argument_count(code: u64) -> u64
     ensures { CountsArguments code result }
 {
@@ -207,6 +267,7 @@ fn only_range(most: u64, i: u64) -> Range
 }
 
 // The range of an event's argument, counted from 0.
+#[tactic(auto, unfolding(crate::specs::Table::argument_range))]
 pub fn argument_range(code: u64, i: u64) -> Range
     ensures { GivesRange code i result }
 {
@@ -226,76 +287,65 @@ pub fn code_in_trace(code: u64) -> bool
 }
 
 // Whether the first argument is in its range, and the event has no other.
-fn only_known(most: u64, a: u64, b: u64, c: u64, d: u64, e: u64, f: u64) -> bool
-    ensures { result ≡ (leb a most && leb b 0 && leb c 0 && leb d 0 && leb e 0 && leb f 0) }
+fn only_known(most: u64, e: Event) -> bool
+    ensures { result ≡ (leb e.first most && leb e.second 0 && leb e.third 0 && leb e.fourth 0 && leb e.fifth 0 && leb e.sixth 0) }
 {
-    (a <= most) & (b <= NONE) & (c <= NONE) & (d <= NONE) & (e <= NONE) & (f <= NONE)
+    (e.first <= most)
+        & (e.second <= NONE)
+        & (e.third <= NONE)
+        & (e.fourth <= NONE)
+        & (e.fifth <= NONE)
+        & (e.sixth <= NONE)
 }
 
-// Whether six arguments are in the ranges of a code; any 64-bit number is an address, and is not tested.
-fn arguments_known(code: u64, a: u64, b: u64, c: u64, d: u64, e: u64, f: u64) -> bool
-    ensures { result ≡ arguments_known code a b c d e f }
+// Whether an event's arguments are in the ranges of its code; any 64-bit number is an address, and is not tested.
+#[tactic(auto, unfolding(crate::specs::Table::arguments_known, crate::specs::Table::argument_range))]
+fn arguments_known(e: Event) -> bool
+    ensures { result ≡ arguments_known e.code e.first e.second e.third e.fourth e.fifth e.sixth }
 {
-    match code {
+    match e.code {
         TX_OPEN => {
-            (b <= STP)
-                & ((SLOW_RATE <= c) & (c <= FAST_RATE))
-                & (d <= MOST_TAG)
-                & (e <= MOST_BLOCKED_COUNT)
-                & (f <= MOST_WAIT)
+            (e.second <= STP)
+                & ((SLOW_RATE <= e.third) & (e.third <= FAST_RATE))
+                & (e.fourth <= MOST_TAG)
+                & (e.fifth <= MOST_BLOCKED_COUNT)
+                & (e.sixth <= MOST_WAIT)
         }
-        OPEN_RECEIVED => (b <= STP) & (c <= NONE) & (d <= NONE) & (e <= NONE) & (f <= NONE),
-        OPEN_REJECT_RECEIVED => only_known(MOST_REJECT, a, b, c, d, e, f),
-        _ => only_known(other_most(code), a, b, c, d, e, f),
+        OPEN_RECEIVED => {
+            (e.second <= STP)
+                & (e.third <= NONE)
+                & (e.fourth <= NONE)
+                & (e.fifth <= NONE)
+                & (e.sixth <= NONE)
+        }
+        OPEN_REJECT_RECEIVED => only_known(MOST_REJECT, e),
+        _ => only_known(other_most(e.code), e),
     }
 }
 
 // Whether a phy knows an event; a time stamp is none of its events.
+#[tactic(auto, unfolding(crate::specs::Table::known_of))]
 pub fn known(e: Event) -> bool
     ensures { TellsKnown e result }
 {
-    let code = e.code;
-    if PHY_DISABLED < code {
+    if PHY_DISABLED < e.code {
         return false;
     }
-    (TX_OPEN <= code)
-        & arguments_known(code, e.first, e.second, e.third, e.fourth, e.fifth, e.sixth)
+    (TX_OPEN <= e.code) & arguments_known(e)
 }
 
 // Whether an event may stand in a trace.
+#[tactic(auto, unfolding(crate::specs::Table::known_in_trace))]
 pub fn known_in_trace(e: Event) -> bool
     ensures { TellsKnownInTrace e result }
 {
-    let code = e.code;
-    code_in_trace(code)
-        & arguments_known(code, e.first, e.second, e.third, e.fourth, e.fifth, e.sixth)
+    code_in_trace(e.code) & arguments_known(e)
 }
 
 // An Open that is kept has its arguments in the ranges of a Tx Open.
+#[tactic(auto, unfolding(crate::specs::Table::open_known))]
 pub fn open_known(o: Open) -> bool
     ensures { TellsOpenKnown o result }
 {
-    arguments_known(
-        TX_OPEN,
-        o.destination,
-        o.protocol,
-        o.rate,
-        o.tag,
-        o.blockedCount,
-        o.wait,
-    )
-}
-
-// The Open that the arguments of a Tx Open make.
-pub fn open_of(e: Event) -> Open
-    ensures { MakesOpen e result }
-{
-    Open {
-        destination: e.first,
-        protocol: e.second,
-        rate: e.third,
-        tag: e.fourth,
-        blockedCount: e.fifth,
-        wait: e.sixth,
-    }
+    arguments_known(Event::from(o))
 }

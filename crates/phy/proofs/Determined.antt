@@ -6,6 +6,7 @@ pub determined : Determined
 determined =
     record {
       fresh = by_equation _;
+      quiet = λ p. by_equation _;
       valid = λ p. by_equation _;
       last_tick = λ p. by_equation _;
       moved = λ p e. by_equation _;

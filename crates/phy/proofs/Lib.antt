@@ -1,1 +1,2 @@
+pub mod ByCode
 pub mod Determined

@@ -1,7 +1,7 @@
 -- What each public function promises, cited by its `ensures` and by `Determined` in Laws.
 use Rattle.std.specs.Prelude.{Bool, ◌≡◌}
 use Rattle.event.specs.declared.Event.{Event}
-use Rattle.phy.specs.Shapes.{fresh_phy}
+use Rattle.phy.specs.Shapes.{fresh_phy, quiet}
 use Rattle.phy.specs.State.{valid_of}
 use Rattle.phy.specs.Ticks.{last_tick}
 use Rattle.phy.specs.Step.{move_of, step_of}
@@ -11,6 +11,10 @@ use Rattle.phy.specs.declared.Stepped.{Stepped}
 -- `fresh`
 abbrev pub StartsFresh : Phy → Type 0
 StartsFresh r = r ≡ fresh_phy
+
+-- `quiet` of a phy
+abbrev pub StaysQuiet : Phy → Stepped → Type 0
+StaysQuiet p r = r ≡ quiet p
 
 -- `valid` of a phy
 abbrev pub TellsValid : Phy → Bool → Type 0

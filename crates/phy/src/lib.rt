@@ -9,40 +9,39 @@ mod ticks;
 
 ghost use Rattle.phy.specs.Promises.{Moves, Steps};
 
-use event::{
-    ACCEPT_OPENS, AIP_RECEIVED, BREAK_RECEIVED, CANCEL_OPEN, CLOSE_CONNECTION, CLOSE_RECEIVED,
-    Event, HARD_RESET, OPEN_ACCEPT_RECEIVED, OPEN_RECEIVED, OPEN_REJECT_RECEIVED, Open,
-    PHY_DISABLED, REJECT_OPENS, SMP_TRANSMIT_BREAK, TICK, TX_OPEN,
-};
+pub use event::NO_OPEN;
+use event::{Code, Event, Open};
 pub use names::{
     ANSWER_BAD_DESTINATION, ANSWER_BREAK_RECEIVED, ANSWER_COLLIDED, ANSWER_NO_DESTINATION,
     ANSWER_OPEN_TIMEOUT, ANSWER_OPENED, ANSWER_OPENED_BY_DESTINATION, ANSWER_OPENED_BY_OTHER,
     ANSWER_PATHWAY_BLOCKED, ANSWER_PORT_LAYER_REQUEST, ANSWER_PROTOCOL, ANSWER_RATE, ANSWER_RETRY,
     ANSWER_STP_BUSY, ANSWER_TERMINATED, ANSWER_WRONG_DESTINATION, BEND, L0, L3, P1, P2,
 };
-pub use shapes::{NO_OPEN, fresh};
+pub use shapes::fresh;
 pub use state::valid;
+use table::{OFF, ON, Refusal};
 pub use ticks::last_tick;
 
-// What outlives every move but a reset: flags.
+// What outlives every move but a reset: flags, numbers as C has them.
 #[repr(C)]
-#[derive(Clone, Copy)]
+#[derive(Clone, Copy, Debug, PartialEq, Eq)]
 pub struct Settings {
     pub accept: u64,
 }
 
 // How long a request has waited: its wait, and from 32,768 on what has passed of the next millisecond.
-#[derive(Clone, Copy)]
+#[derive(Clone, Copy, Debug, PartialEq, Eq)]
 pub struct Waited {
     pub wait: u64,
     pub part: u64,
 }
 
-// Numbers of any size may stand here: `valid` tells which records are states. The part of a millisecond
+// States and flags are numbers, since the record is the C interface's and a caller hands in any: `valid` tells which
+// records are states. The part of a millisecond
 // that the request has waited beyond its wait is kept in P2. Who opens us, and by which protocol, is kept
 // in L2; `farClosed` is a flag, that the far end has closed.
 #[repr(C)]
-#[derive(Clone, Copy)]
+#[derive(Clone, Copy, Debug, PartialEq, Eq)]
 pub struct Phy {
     pub link: u64,
     pub port: u64,
@@ -60,7 +59,7 @@ pub struct Phy {
 // What a step gives: the phy, an answer with the arguments of its Open, a notice, a primitive sent and
 // the number of a refusal, each 0 where there is none.
 #[repr(C)]
-#[derive(Clone, Copy)]
+#[derive(Clone, Copy, Debug, PartialEq, Eq)]
 pub struct Stepped {
     pub next: Phy,
     pub answered: Open,
@@ -71,32 +70,33 @@ pub struct Stepped {
 }
 
 // The move of an event, for whoever knows that the phy is valid and the event known.
+#[tactic(auto, using(crate::proofs::ByCode::unnamed))]
 pub fn moved(phy: Phy, event: Event) -> Stepped
     ensures { Moves phy event result }
 {
-    let code = event.code;
+    let Ok(code) = Code::try_from(event.code) else {
+        return phy.quiet();
+    };
     match code {
-        0 => shapes::quiet(phy),
-        TX_OPEN => moves::on_tx_open(phy, event),
-        CANCEL_OPEN => moves::on_cancel_open(phy),
-        CLOSE_CONNECTION => moves::on_close_connection(phy),
-        SMP_TRANSMIT_BREAK => moves::on_smp_transmit_break(phy),
-        ACCEPT_OPENS => moves::on_accept(phy, table::ON),
-        REJECT_OPENS => moves::on_accept(phy, table::OFF),
-        OPEN_RECEIVED => moves::on_open_received(phy, event),
-        OPEN_ACCEPT_RECEIVED => moves::on_open_accept(phy),
-        OPEN_REJECT_RECEIVED => moves::on_open_reject(phy, event),
-        AIP_RECEIVED => moves::on_aip(phy),
-        BREAK_RECEIVED => moves::on_break(phy),
-        CLOSE_RECEIVED => moves::on_close(phy),
-        TICK => ticks::on_tick(phy),
-        HARD_RESET => moves::on_reset(phy),
-        PHY_DISABLED => moves::on_reset(phy),
-        16..=18446744073709551615 => shapes::quiet(phy),
+        Code::TxOpen => moves::on_tx_open(phy, event),
+        Code::CancelOpen => moves::on_cancel_open(phy),
+        Code::CloseConnection => moves::on_close_connection(phy),
+        Code::SmpTransmitBreak => moves::on_smp_transmit_break(phy),
+        Code::AcceptOpens => moves::on_accept(phy, ON),
+        Code::RejectOpens => moves::on_accept(phy, OFF),
+        Code::OpenReceived => moves::on_open_received(phy, event),
+        Code::OpenAcceptReceived => moves::on_open_accept(phy),
+        Code::OpenRejectReceived => moves::on_open_reject(phy, event),
+        Code::AipReceived => moves::on_aip(phy),
+        Code::BreakReceived => moves::on_break(phy),
+        Code::CloseReceived => moves::on_close(phy),
+        Code::Tick => ticks::on_tick(phy),
+        Code::HardReset | Code::PhyDisabled => moves::on_reset(phy),
     }
 }
 
 // Any phy and any event: the phy is judged first, then the event.
+#[tactic(auto, unfolding(crate::specs::Step::step_of))]
 pub fn step(phy: Phy, event: Event) -> Stepped
     ensures { Steps phy event result }
 {
@@ -104,7 +104,7 @@ pub fn step(phy: Phy, event: Event) -> Stepped
         if event::known(event) {
             return moved(phy, event);
         }
-        return shapes::refused(phy, table::BAD_EVENT);
+        return phy.refused(Refusal::BadEvent);
     }
-    shapes::refused(phy, table::BAD_STATE)
+    phy.refused(Refusal::BadState)
 }

@@ -1,25 +1,13 @@
 // Which records are valid.
 ghost use Rattle.std.specs.Prelude.{◌≡◌, ◌&&◌, eqb, leb};
 ghost use Rattle.phy.specs.Names.{P1 as NamesP1, P2 as NamesP2, P3 as NamesP3, P4 as NamesP4, full_timer};
-ghost use Rattle.phy.specs.State.{is_no_open, valid_part, valid_settings, valid_in};
+ghost use Rattle.phy.specs.State.{valid_part, valid_settings, valid_in};
 ghost use Rattle.phy.specs.Promises.{TellsValid};
 
 use crate::names::*;
 use crate::{Phy, Settings};
-use event::{MOST_WAIT, Open, STP, open_known};
+use event::{MOST_WAIT, NO_OPEN, STP, open_known};
 use table::{OFF, ON};
-
-// No argument is kept.
-fn is_no_open(o: Open) -> bool
-    ensures { result ≡ is_no_open o }
-{
-    (o.destination == 0)
-        & (o.protocol == 0)
-        & (o.rate == 0)
-        & (o.tag == 0)
-        & (o.blockedCount == 0)
-        & (o.wait == 0)
-}
 
 // The timer of L1, L4 and L5.
 fn runs(timer: u64) -> bool
@@ -52,16 +40,16 @@ fn valid_settings(settings: Settings) -> bool
 
 // P1, with each link state that it goes with: one test for each rule, in the paper's order. What the pair
 // settles is not tested again, and no test branches, so that those of a pair are made at once.
+#[tactic(auto, unfolding(crate::specs::State::valid_inbound, crate::specs::State::valid_request))]
 fn valid_idle(p: Phy) -> bool
     ensures { result ≡ valid_in NamesP1 p }
 {
-    let link = p.link;
     let request = p.request;
     let set = valid_settings(p.settings);
-    let unused = (p.timer == 0) & is_no_open(request) & (p.part == 0) & (p.reason == 0);
+    let unused = (p.timer == 0) & (request == NO_OPEN) & (p.part == 0) & (p.reason == 0);
     let unlinked = p.connectionProtocol == 0;
     let unclosed = p.farClosed == OFF;
-    match link {
+    match p.link {
         L0 => unused & nobody(p) & unlinked & unclosed & set,
         L2 => unused & (p.inboundProtocol <= STP) & unlinked & unclosed & set,
         L6 => unused & nobody(p) & unlinked & unclosed & set,
@@ -69,10 +57,10 @@ fn valid_idle(p: Phy) -> bool
     }
 }
 
+#[tactic(auto, unfolding(crate::specs::State::valid_inbound, crate::specs::State::valid_request))]
 fn valid_requesting(p: Phy) -> bool
     ensures { result ≡ valid_in NamesP2 p }
 {
-    let link = p.link;
     let request = p.request;
     let timer = p.timer;
     let set = valid_settings(p.settings);
@@ -81,7 +69,7 @@ fn valid_requesting(p: Phy) -> bool
     let no_reason = p.reason == 0;
     let unlinked = p.connectionProtocol == 0;
     let unclosed = p.farClosed == OFF;
-    match link {
+    match p.link {
         L1 => runs(timer) & asked & counted & no_reason & nobody(p) & unlinked & unclosed & set,
         L2 => (timer == 0)
             & asked
@@ -96,19 +84,19 @@ fn valid_requesting(p: Phy) -> bool
     }
 }
 
+#[tactic(auto, unfolding(crate::specs::State::valid_inbound, crate::specs::State::valid_request))]
 fn valid_connected(p: Phy) -> bool
     ensures { result ≡ valid_in NamesP3 p }
 {
-    let link = p.link;
     let request = p.request;
     let timer = p.timer;
     let set = valid_settings(p.settings);
-    let unused = is_no_open(request);
+    let unused = (request == NO_OPEN);
     let no_part = p.part == 0;
     let no_reason = p.reason == 0;
     let linked = p.connectionProtocol <= STP;
     let unclosed = p.farClosed == OFF;
-    match link {
+    match p.link {
         L3 => (timer == 0)
             & unused
             & no_part
@@ -124,10 +112,10 @@ fn valid_connected(p: Phy) -> bool
     }
 }
 
+#[tactic(auto, unfolding(crate::specs::State::valid_inbound, crate::specs::State::valid_request))]
 fn valid_closing(p: Phy) -> bool
     ensures { result ≡ valid_in NamesP4 p }
 {
-    let link = p.link;
     let request = p.request;
     let timer = p.timer;
     let reason = p.reason;
@@ -138,18 +126,18 @@ fn valid_closing(p: Phy) -> bool
     let broken = reason == ANSWER_BREAK_RECEIVED;
     let unlinked = p.connectionProtocol == 0;
     let unclosed = p.farClosed == OFF;
-    match link {
+    match p.link {
         L5 => runs(timer) & asked & no_part & given_up & nobody(p) & unlinked & unclosed & set,
         L6 => (timer == 0) & asked & no_part & broken & nobody(p) & unlinked & unclosed & set,
         _ => false,
     }
 }
 
+#[tactic(auto, unfolding(crate::specs::State::valid_of))]
 pub fn valid(p: Phy) -> bool
     ensures { TellsValid p result }
 {
-    let port = p.port;
-    match port {
+    match p.port {
         P1 => valid_idle(p),
         P2 => valid_requesting(p),
         P3 => valid_connected(p),

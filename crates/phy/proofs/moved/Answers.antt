@@ -1,73 +1,47 @@
--- `phy::moved` meets its contract: each arm is an event's row, and an unknown code has none.
-use mathlib.Core.Path.{◌≡◌, sym, ◌∙◌}
-use Rattle.table.proofs.Laws.{others_from}
-use Rattle.phy.specs.Step.{move_rows, move_of}
+-- `phy::moved` meets its contract: each arm is the row of its name's number.
+use mathlib.Core.Logic.{⊎_elim}
+use Rattle.phy.proofs.ByCode.{named}
 use Rattle.phy.proofs.moved.Goals as goal
 
-pub returns-in-0 : goal.returns-in-0
-unfolding move_of
-returns-in-0 c = simp (c.quiet.ensures, c.in-0.is)
+pub returns-in-TxOpen : goal.returns-in-TxOpen
+returns-in-TxOpen c = named _ _ c.try_from.ensures c.in-Ok.is c.in-TxOpen.is c.on_tx_open.ensures
 
-pub returns-in-1 : goal.returns-in-1
-unfolding move_of
-returns-in-1 c = simp (c.on_tx_open.ensures, c.in-1.is)
+pub returns-in-CancelOpen : goal.returns-in-CancelOpen
+returns-in-CancelOpen c = named _ _ c.try_from.ensures c.in-Ok.is c.in-CancelOpen.is c.on_cancel_open.ensures
 
-pub returns-in-2 : goal.returns-in-2
-unfolding move_of
-returns-in-2 c = simp (c.on_cancel_open.ensures, c.in-2.is)
+pub returns-in-CloseConnection : goal.returns-in-CloseConnection
+returns-in-CloseConnection c = named _ _ c.try_from.ensures c.in-Ok.is c.in-CloseConnection.is c.on_close_connection.ensures
 
-pub returns-in-3 : goal.returns-in-3
-unfolding move_of
-returns-in-3 c = simp (c.on_close_connection.ensures, c.in-3.is)
+pub returns-in-SmpTransmitBreak : goal.returns-in-SmpTransmitBreak
+returns-in-SmpTransmitBreak c = named _ _ c.try_from.ensures c.in-Ok.is c.in-SmpTransmitBreak.is c.on_smp_transmit_break.ensures
 
-pub returns-in-4 : goal.returns-in-4
-unfolding move_of
-returns-in-4 c = simp (c.on_smp_transmit_break.ensures, c.in-4.is)
+pub returns-in-AcceptOpens : goal.returns-in-AcceptOpens
+returns-in-AcceptOpens c = named _ _ c.try_from.ensures c.in-Ok.is c.in-AcceptOpens.is c.on_accept.ensures
 
-pub returns-in-5 : goal.returns-in-5
-unfolding move_of
-returns-in-5 c = simp (c.on_accept.ensures, c.in-5.is)
+pub returns-in-RejectOpens : goal.returns-in-RejectOpens
+returns-in-RejectOpens c = named _ _ c.try_from.ensures c.in-Ok.is c.in-RejectOpens.is c.on_accept-in-RejectOpens.ensures
 
-pub returns-in-6 : goal.returns-in-6
-unfolding move_of
-returns-in-6 c = simp (c.on_accept-in-6.ensures, c.in-6.is)
+pub returns-in-OpenReceived : goal.returns-in-OpenReceived
+returns-in-OpenReceived c = named _ _ c.try_from.ensures c.in-Ok.is c.in-OpenReceived.is c.on_open_received.ensures
 
-pub returns-in-7 : goal.returns-in-7
-unfolding move_of
-returns-in-7 c = simp (c.on_open_received.ensures, c.in-7.is)
+pub returns-in-OpenAcceptReceived : goal.returns-in-OpenAcceptReceived
+returns-in-OpenAcceptReceived c = named _ _ c.try_from.ensures c.in-Ok.is c.in-OpenAcceptReceived.is c.on_open_accept.ensures
 
-pub returns-in-8 : goal.returns-in-8
-unfolding move_of
-returns-in-8 c = simp (c.on_open_accept.ensures, c.in-8.is)
+pub returns-in-OpenRejectReceived : goal.returns-in-OpenRejectReceived
+returns-in-OpenRejectReceived c = named _ _ c.try_from.ensures c.in-Ok.is c.in-OpenRejectReceived.is c.on_open_reject.ensures
 
-pub returns-in-9 : goal.returns-in-9
-unfolding move_of
-returns-in-9 c = simp (c.on_open_reject.ensures, c.in-9.is)
+pub returns-in-AipReceived : goal.returns-in-AipReceived
+returns-in-AipReceived c = named _ _ c.try_from.ensures c.in-Ok.is c.in-AipReceived.is c.on_aip.ensures
 
-pub returns-in-10 : goal.returns-in-10
-unfolding move_of
-returns-in-10 c = simp (c.on_aip.ensures, c.in-10.is)
+pub returns-in-BreakReceived : goal.returns-in-BreakReceived
+returns-in-BreakReceived c = named _ _ c.try_from.ensures c.in-Ok.is c.in-BreakReceived.is c.on_break.ensures
 
-pub returns-in-11 : goal.returns-in-11
-unfolding move_of
-returns-in-11 c = simp (c.on_break.ensures, c.in-11.is)
+pub returns-in-CloseReceived : goal.returns-in-CloseReceived
+returns-in-CloseReceived c = named _ _ c.try_from.ensures c.in-Ok.is c.in-CloseReceived.is c.on_close.ensures
 
-pub returns-in-12 : goal.returns-in-12
-unfolding move_of
-returns-in-12 c = simp (c.on_close.ensures, c.in-12.is)
+pub returns-in-Tick : goal.returns-in-Tick
+returns-in-Tick c = named _ _ c.try_from.ensures c.in-Ok.is c.in-Tick.is c.on_tick.ensures
 
-pub returns-in-13 : goal.returns-in-13
-unfolding move_of
-returns-in-13 c = simp (c.on_tick.ensures, c.in-13.is)
-
-pub returns-in-14 : goal.returns-in-14
-unfolding move_of
-returns-in-14 c = simp (c.on_reset.ensures, c.in-14.is)
-
-pub returns-in-15 : goal.returns-in-15
-unfolding move_of
-returns-in-15 c = simp (c.on_reset-in-15.ensures, c.in-15.is)
-
-pub returns-in-16-to-18446744073709551615 : goal.returns-in-16-to-18446744073709551615
-unfolding move_of
-returns-in-16-to-18446744073709551615 c = c.quiet-in-16-to-18446744073709551615.ensures ∙ sym (others_from (Unit × (c.args.event.code ≡ 0 → ⊥)) _ (move_rows c.args.phy c.args.event) _ c.in-16-to-18446744073709551615.in-16-to-18446744073709551615-own.rest)
+pub returns-in-HardReset : goal.returns-in-HardReset
+returns-in-HardReset c =
+    ⊎_elim (λ is. named _ _ c.try_from.ensures c.in-Ok.is is c.on_reset.ensures) (λ is. named _ _ c.try_from.ensures c.in-Ok.is is c.on_reset.ensures) c.in-HardReset.is
