@@ -12,14 +12,13 @@ use Rattle.table.proofs.Stores.{sets_on}
 use Rattle.number.specs.Writing.{number_bytes}
 use Rattle.number.specs.Writing as number
 use Rattle.number.specs.Promises.{WritesNumber}
-use Rattle.number.specs.declared.NumberWritten.TheVariants as number-written
-use Rattle.number.proofs.RoundTrip.{sized}
-use Rattle.number.proofs.Refusals.{no_room_exactly}
+use Rattle.std.specs.Prelude.{Result, Ok, Err, IsOk}
+use Rattle.table.specs.declared.Refusal.{Refusal}
+use Rattle.number.proofs.RoundTrip.{refused_not_wrote, sized}
 use Rattle.event.specs.Table.{argument_count, known_in_trace}
 use Rattle.event.specs.declared.Event.{Event}
 use Rattle.trace.specs.Writing.{wrote, bytes_of, all_numbers, event_bytes, fits}
 use Rattle.trace.specs.Promises.{WritesEvent}
-use Rattle.trace.specs.declared.EventWritten.TheVariants.{Length}
 use Rattle.trace.proofs.Known.{six_arguments, numbers_small}
 
 -- ---- the numbers that the writer goes through: as many as the event has, each of at most 64 bits
@@ -91,14 +90,15 @@ module _ {count : ℕ} {numbers before : List ℕ} {place : ℕ} {buffer : List 
     left : at + (length (number_bytes (get_or numbers i 0)) + length (bytes_of (drop (i + 1) (take (suc count) numbers)))) ≤ length buffer
     left = omega (arith, w.room, simp length-append at (ap length (next_number w.fine i h)))
 
+    fit : number.fits (get_or numbers i 0) buffer at ≡ true
+    fit = le-leb (at + length (number_bytes (get_or numbers i 0))) (length buffer) (omega (arith, left))
+
     -- there is room for the number
-    pub filling_room : {after : List ℕ} → WritesNumber (get_or numbers i 0) buffer at number-written.NoRoom after → ⊥
-    filling_room n = omega (arith, (no_room_exactly (get_or numbers i 0) buffer at).0 (sym n.says), left)
+    pub filling_room : (r : Result ℕ Refusal) {after : List ℕ} → WritesNumber (get_or numbers i 0) buffer at r after → IsOk r
+    filling_room (Ok n) w = refl
+    filling_room (Err refusal) w = absurd (refused_not_wrote (rw fit at w.says))
 
-    module _ {n : ℕ} {after : List ℕ} (c : WritesNumber (get_or numbers i 0) buffer at (number-written.Length n) after) where
-      fit : number.fits (get_or numbers i 0) buffer at ≡ true
-      fit = le-leb (at + length (number_bytes (get_or numbers i 0))) (length buffer) (omega (arith, left))
-
+    module _ {n : ℕ} {after : List ℕ} (c : WritesNumber (get_or numbers i 0) buffer at (Ok n) after) where
       written : number.wrote n ≡ number.wrote (length (number_bytes (get_or numbers i 0)))
       written = rw fit at c.says
 
@@ -131,7 +131,7 @@ module _ {count : ℕ} {numbers before : List ℕ} {place : ℕ} {buffer : List 
 pub with_room :
     (e : Event) (before : List ℕ) (place : ℕ) → known_in_trace e ≡ true → {n : ℕ} {after : List ℕ}
     → place + length (event_bytes e) ≤ length before → n ≡ length (event_bytes e) → after ≡ sets before place (event_bytes e)
-    → WritesEvent e before place (Length n) after
+    → WritesEvent e before place (Ok n) after
 with_room e before place k h l b =
     let f : fits e before place ≡ true = le-leb (place + length (event_bytes e)) (length before) h in
     record { says = rw (k, f) (ap wrote l); leaves = rw (k, f) b }

@@ -10,13 +10,18 @@ loop-i-init c =
     (rw (c.argument_count-count.ensures, c.all_numbers-numbers.ensures) (sound c.args.e c.requires.known))
     (rw (event_bytes_lem {e = c.args.e} c.argument_count-count.ensures c.all_numbers-numbers.ensures) c.requires.room)
 
-pub loop-i-preserved : goal.loop-i-preserved
-loop-i-preserved c = filling_on c.loop-i.invariant c.loop-i-test.true c.in-Length.ensures
-
-pub returns-in-NoRoom : goal.returns-in-NoRoom
-returns-in-NoRoom c = absurd (filling_room c.loop-i.invariant c.loop-i-test.true c.in-NoRoom.ensures)
-
 pub returns : goal.returns
 returns c =
     filling_done c.loop-i.invariant (omega arith)
+    ∙ ap (sets _ _) (event_bytes_lem c.argument_count-count.ensures c.all_numbers-numbers.ensures)
+
+pub unwrap-at-requires : goal.unwrap-at-requires
+unwrap-at-requires c = filling_room c.loop-i.invariant (omega arith) _ c.write_number.ensures
+
+pub loop-i-preserved : goal.loop-i-preserved
+loop-i-preserved c = filling_on c.loop-i.invariant (omega arith) (rw c.unwrap-at.ensures at c.write_number.ensures)
+
+pub returns-2 : goal.returns-2
+returns-2 c =
+    filling_done (filling_on c.loop-i.invariant (omega arith) (rw c.unwrap-at.ensures at c.write_number.ensures)) (omega arith)
     ∙ ap (sets _ _) (event_bytes_lem c.argument_count-count.ensures c.all_numbers-numbers.ensures)
