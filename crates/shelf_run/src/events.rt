@@ -39,13 +39,9 @@ fn unset(bay: Bay) -> Bay
 fn all_unset(table: Table) -> Table
     ensures { result.bays ≡ all_unset table.bays }
 {
-    let mut next = table;
-    let mut i: usize = 0;
-    while i < MOST_PHYS {
-        next.bays[i] = unset(next.bays[i]);
-        i += 1;
+    Table {
+        bays: table.bays.map(unset),
     }
-    next
 }
 
 // The byte of an event: the refusal, or else the answer, or else 0. All of them are bytes.
