@@ -78,10 +78,7 @@ pub fn write_number(value: u64, buffer: &mut [u8], place: usize) -> Result<usize
     ensures { WritesNumber value buffer.old place result buffer.new }
 {
     let length = number_length(value);
-    if buffer.len() < place {
-        return Err(Refusal::NoRoom);
-    }
-    if buffer.len() - place < length {
+    if buffer.len().saturating_sub(place) < length {
         return Err(Refusal::NoRoom);
     }
     let mut rest = value;

@@ -123,12 +123,11 @@ fn event_length(e: Event) -> usize
     requires { known_in_trace e ≡ true }
     ensures { result ≡ length (event_bytes e) }
 {
-    let code = e.code;
-    let count = event::argument_count(code);
+    let count = event::argument_count(e.code);
     let numbers = all_numbers(e);
     let mut length: usize = 0;
-    for i in 0..=count {
-        length += number::number_length(numbers[i as usize]);
+    for number in &numbers[..=count as usize] {
+        length += number::number_length(*number);
     }
     length
 }
@@ -138,12 +137,11 @@ fn write_numbers(e: Event, buffer: &mut [u8], place: usize)
     requires { HasRoom e buffer.old place }
     ensures { FillsBuffer e buffer.old place buffer.new }
 {
-    let code = e.code;
-    let count = event::argument_count(code);
+    let count = event::argument_count(e.code);
     let numbers = all_numbers(e);
     let mut at = place;
-    for i in 0..=count {
-        at += number::write_number(numbers[i as usize], buffer, at).unwrap();
+    for number in &numbers[..=count as usize] {
+        at += number::write_number(*number, buffer, at).unwrap();
     }
 }
 
@@ -151,16 +149,13 @@ fn write_numbers(e: Event, buffer: &mut [u8], place: usize)
 pub fn write_event(e: Event, buffer: &mut [u8], place: usize) -> Result<usize, Refusal>
     ensures { WritesEvent e buffer.old place result buffer.new }
 {
-    if event::known_in_trace(e) {
-        let length = event_length(e);
-        if buffer.len() < place {
-            return Err(Refusal::NoRoom);
-        }
-        if buffer.len() - place < length {
-            return Err(Refusal::NoRoom);
-        }
-        write_numbers(e, buffer, place);
-        return Ok(length);
+    if !event::known_in_trace(e) {
+        return Err(Refusal::BadEvent);
     }
-    Err(Refusal::BadEvent)
+    let length = event_length(e);
+    if buffer.len().saturating_sub(place) < length {
+        return Err(Refusal::NoRoom);
+    }
+    write_numbers(e, buffer, place);
+    Ok(length)
 }

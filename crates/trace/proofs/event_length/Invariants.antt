@@ -2,5 +2,5 @@
 use Rattle.trace.proofs.WriteLoop.{Counted}
 use Rattle.trace.proofs.event_length.Given as goal
 
-abbrev pub invariant-loop-i : goal.invariant-loop-i
-invariant-loop-i l = Counted l.count l.numbers l.length l.i
+abbrev pub invariant-loop-number : goal.invariant-loop-number
+invariant-loop-number l = Counted l.number-items l.length l.number-index

@@ -2,5 +2,5 @@
 use Rattle.trace.proofs.WriteLoop.{Filling}
 use Rattle.trace.proofs.write_numbers.Given as goal
 
-abbrev pub invariant-loop-i : goal.invariant-loop-i
-invariant-loop-i l = Filling l.count l.numbers l.initial.buffer l.place l.buffer l.at l.i
+abbrev pub invariant-loop-number : goal.invariant-loop-number
+invariant-loop-number l = Filling l.number-items l.initial.buffer l.place l.buffer l.at l.number-index
