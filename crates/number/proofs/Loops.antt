@@ -13,7 +13,8 @@ use lib.Seq.{sets, drop-cons}
 use Rattle.number.specs.Reading.{Told, value, refused, high, most_later, tenth_byte, below, groups, read_number}
 use Rattle.number.specs.Writing.{bytes_of, number_bytes, fits, wrote}
 use Rattle.number.specs.Promises.{WritesNumber}
-use Rattle.number.specs.declared.NumberWritten.TheVariants.{Length, NoRoom}
+use Rattle.std.specs.Prelude.{Ok, Err}
+use Rattle.table.specs.declared.Refusal.TheVariants.{NoRoom}
 use borrow.Author.Tests.{le-leb, lt-leb, lt-ltb, le-ltb}
 use Rattle.number.proofs.Groups.{cap, cap_two, More, more, last}
 
@@ -74,13 +75,13 @@ writing_done {buffer = buffer} {rest} {at} w k =
     (omega (arith, ap length l), ap (sets buffer at) (sym l) ∙ w.whole)
 
 -- the contract where there is no room, and where there is
-pub no_room_lem : (v : ℕ) (before : List ℕ) (place : ℕ) → length before < place + length (number_bytes v) → WritesNumber v before place NoRoom before
+pub no_room_lem : (v : ℕ) (before : List ℕ) (place : ℕ) → length before < place + length (number_bytes v) → WritesNumber v before place (Err NoRoom) before
 no_room_lem v before place h =
     let t : fits v before place ≡ false = lt-leb (place + length (number_bytes v)) (length before) h in
     record { says = rw t; leaves = rw t }
 
 pub with_room : (v : ℕ) (before : List ℕ) (place n : ℕ) (after : List ℕ) → place + length (number_bytes v) ≤ length before
-    → n ≡ length (number_bytes v) → after ≡ sets before place (number_bytes v) → WritesNumber v before place (Length n) after
+    → n ≡ length (number_bytes v) → after ≡ sets before place (number_bytes v) → WritesNumber v before place (Ok n) after
 with_room v before place n after h e b =
     let t : fits v before place ≡ true = le-leb (place + length (number_bytes v)) (length before) h in
     record { says = rw t (ap wrote e); leaves = rw t b }
@@ -148,6 +149,10 @@ passed_start s place h k u =
       room = refl;
       whole = at_more 8 s place h k ∙ below_onto (get_or s place 0 - high) (groups 8 (place + 1) (drop (place + 1) s));
     }
+
+-- where the loop ends
+pub passed_end : {s : List ℕ} {place at end passed weight : ℕ} → Passed s place at passed weight → at ≡ end → Passed s place end passed weight
+passed_end {s} {place} {passed = passed} {weight} p e = subst (λ (n : ℕ). Passed s place n passed weight) e p
 
 module _ {s : List ℕ} {place next passed weight : ℕ} (p : Passed s place next passed weight) where
   pub passed_cut : length s ≤ next → read_number s place ≡ refused cut

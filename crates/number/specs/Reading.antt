@@ -1,9 +1,9 @@
 -- Reading a number of a trace: groups of seven bits, lowest first, the high bit set if another follows.
-use Rattle.std.specs.Prelude.{ℕ, zero, suc, ◌+◌, ◌-◌, ◌*◌, List, [], ◌∷◌, drop, ltb}
+use Rattle.std.specs.Prelude.{ℕ, zero, suc, ◌+◌, ◌-◌, ◌*◌, List, [], ◌∷◌, Result, Ok, Err, drop, ltb}
 use Rattle.table.specs.Choice.{pick}
-use Rattle.table.specs.Refusals.{cut, too_large}
-use Rattle.number.specs.declared.NumberRead.{NumberRead}
-use Rattle.number.specs.declared.NumberRead.TheVariants.{Value, Cut, TooLarge}
+use Rattle.table.specs.Refusals.{cut, too_large, number_of}
+use Rattle.table.specs.declared.Refusal.{Refusal}
+use Rattle.number.specs.declared.Found.{Found}
 
 -- what reading a number says: its value and the place after it, or the number of a refusal
 pub data Told : Type 0 where
@@ -39,7 +39,6 @@ unfoldable pub read_number : List ℕ → ℕ → Told
 read_number s place = groups most_later place (drop place s)
 
 -- what each result says, as the paper numbers it
-abbrev pub tells : NumberRead → Told
-tells (Value v next) = value v next
-tells Cut = refused cut
-tells TooLarge = refused too_large
+abbrev pub tells : Result (Found ℕ) Refusal → Told
+tells (Ok found) = value found.value found.next
+tells (Err refusal) = refused (number_of refusal)

@@ -1,11 +1,10 @@
 -- Writing a number of a trace: the one shortest form, at a place of a lent buffer.
-use Rattle.std.specs.Prelude.{ℕ, zero, suc, ◌+◌, ◌/◌, ◌%◌, Bool, List, [], ◌∷◌, length, leb, ltb}
+use Rattle.std.specs.Prelude.{ℕ, zero, suc, ◌+◌, ◌/◌, ◌%◌, Bool, List, [], ◌∷◌, Result, Ok, Err, length, leb, ltb}
 use Rattle.std.proofs.lemmas.List.Edits.{sets}
 use Rattle.table.specs.Choice.{pick}
-use Rattle.table.specs.Refusals.{no_room}
+use Rattle.table.specs.Refusals.{no_room, number_of}
+use Rattle.table.specs.declared.Refusal.{Refusal}
 use Rattle.number.specs.Reading.{high, most_later}
-use Rattle.number.specs.declared.NumberWritten.{NumberWritten}
-use Rattle.number.specs.declared.NumberWritten.TheVariants.{Length, NoRoom}
 
 -- what writing a number says: how many bytes it wrote, or the number of a refusal
 pub data ToldWritten : Type 0 where
@@ -34,6 +33,6 @@ abbrev pub buffer_after : ℕ → List ℕ → ℕ → List ℕ
 buffer_after v buffer place = pick (fits v buffer place) (sets buffer place (number_bytes v)) buffer
 
 -- what each result says, as the paper numbers it
-abbrev pub tells_written : NumberWritten → ToldWritten
-tells_written (Length n) = wrote n
-tells_written NoRoom = refused no_room
+abbrev pub tells_written : Result ℕ Refusal → ToldWritten
+tells_written (Ok n) = wrote n
+tells_written (Err refusal) = refused (number_of refusal)

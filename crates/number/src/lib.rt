@@ -2,7 +2,9 @@
 // Reading takes zero groups at the end too; writing gives the one shortest form.
 #![tactic(auto)]
 
-ghost use Rattle.number.specs.Promises.{Fewer, ReadsNumber, CountsBytes, WritesNumber};
+ghost use Rattle.number.specs.Promises.{ReadsNumber, CountsBytes, WritesNumber};
+
+use table::Refusal;
 
 // Each group counts 128 times the one before; in a byte this is the high bit, set where another follows.
 const HIGH: u64 = 128;
@@ -10,68 +12,52 @@ const HIGH: u64 = 128;
 // Between its first group and a tenth a number has at most this many.
 const MOST_BETWEEN: usize = 8;
 
-// What stands at a place: a value and the place after it, or why there is none.
-#[derive(Clone, Copy)]
-pub enum NumberRead {
-    Value { value: u64, next: usize },
-    Cut,
-    TooLarge,
-}
-
-// What writing did: how many bytes it wrote, or that there is no room, and nothing was written.
-#[derive(Clone, Copy)]
-pub enum NumberWritten {
-    Length(usize),
-    NoRoom,
-}
-
-fn fewer(a: usize, b: usize) -> usize
-    ensures { Fewer a b result }
-{
-    if a < b { a } else { b }
+// What stands at a place, and the place after it.
+#[derive(Clone, Copy, Debug, PartialEq, Eq)]
+pub struct Found<T> {
+    pub value: T,
+    pub next: usize,
 }
 
 // The number at a place of a slice; any place is taken, and past the end a number is cut.
-pub fn read_number(s: &[u8], place: usize) -> NumberRead
+pub fn read_number(s: &[u8], place: usize) -> Result<Found<u64>, Refusal>
     ensures { ReadsNumber s.now place result }
 {
     if s.len() <= place {
-        return NumberRead::Cut;
+        return Err(Refusal::Cut);
     }
     let first = s[place] as u64;
-    let mut next = place + 1;
+    let next = place + 1;
     // Most numbers are one byte: it leaves before the loop is set up.
     if first < HIGH {
-        return NumberRead::Value { value: first, next };
+        return Ok(Found { value: first, next });
     }
-    // How many bytes stand before a tenth, so that one test a byte is enough.
-    let mut left = fewer(s.len() - next, MOST_BETWEEN);
+    // Where the bytes before a tenth end, so that one test a byte is enough.
+    let end = s.len().min(next + MOST_BETWEEN);
     let mut value = first - HIGH;
     let mut weight = HIGH;
-    while 0 < left {
-        let b = s[next] as u64;
-        next += 1;
-        left -= 1;
+    for at in next..end {
+        let b = s[at] as u64;
         if b < HIGH {
-            return NumberRead::Value {
+            return Ok(Found {
                 value: b * weight + value,
-                next,
-            };
+                next: at + 1,
+            });
         }
         value = (b - HIGH) * weight + value;
         weight = weight * HIGH;
     }
-    if s.len() <= next {
-        return NumberRead::Cut;
+    if s.len() <= end {
+        return Err(Refusal::Cut);
     }
-    let b = s[next] as u64;
+    let b = s[end] as u64;
     if 1 < b {
-        return NumberRead::TooLarge;
+        return Err(Refusal::TooLarge);
     }
-    NumberRead::Value {
+    Ok(Found {
         value: b * weight + value,
-        next: next + 1,
-    }
+        next: end + 1,
+    })
 }
 
 // How many bytes a value takes.
@@ -88,15 +74,12 @@ pub fn number_length(value: u64) -> usize
 }
 
 // A value's bytes at a place of a buffer, straight into it once their number is known to fit.
-pub fn write_number(value: u64, buffer: &mut [u8], place: usize) -> NumberWritten
+pub fn write_number(value: u64, buffer: &mut [u8], place: usize) -> Result<usize, Refusal>
     ensures { WritesNumber value buffer.old place result buffer.new }
 {
     let length = number_length(value);
-    if buffer.len() < place {
-        return NumberWritten::NoRoom;
-    }
-    if buffer.len() - place < length {
-        return NumberWritten::NoRoom;
+    if buffer.len().saturating_sub(place) < length {
+        return Err(Refusal::NoRoom);
     }
     let mut rest = value;
     let mut at = place;
@@ -106,5 +89,5 @@ pub fn write_number(value: u64, buffer: &mut [u8], place: usize) -> NumberWritte
         at += 1;
     }
     buffer[at] = rest as u8;
-    NumberWritten::Length(length)
+    Ok(length)
 }

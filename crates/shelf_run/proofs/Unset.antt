@@ -1,18 +1,19 @@
--- Records changed one after the other: those before the place are changed, and the others as they were.
-use Prim.Native.Nat.{ℕ, zero, suc, ◌+◌}
-use mathlib.Core.List.{List, [], ◌∷◌, map}
-use mathlib.Core.Path.{◌≡◌, refl, ap}
-use native.Mathlib.Numerals.{add-one}
-use lib.ListN.{get_or, set}
+-- Records that are changed, each by itself, are those of a table that are changed.
+use Prim.Native.Nat.{ℕ, ◌<◌}
+use mathlib.Core.List.{List, ◌++◌, map, append-nil}
+use mathlib.Core.Path.{◌≡◌, sym, ap, ◌∙◌}
+use native.Mathlib.Omega.{arith}
+use lib.ListN.{length, drop, get_or, length-map, drop_of_length-le}
+use lib.Seq.{take_all}
+use Rattle.std.proofs.lemmas.List.{ext_get_or, get_or-map}
 use Rattle.bay.specs.declared.Bay.{Bay}
+use Rattle.port.specs.Names.{most_phys}
 use Rattle.shelf_run.specs.Rows.{fronted}
 
-next : (f : Bay → Bay) (bays : List Bay) (i : ℕ) (d : Bay) → set (fronted i (map f bays) bays) i (f (get_or (fronted i (map f bays) bays) i d)) ≡ fronted (suc i) (map f bays) bays
-next f [] zero d = refl
-next f [] (suc i) d = refl
-next f (b ∷ bays) zero d = refl
-next f (b ∷ bays) (suc i) d = ap (λ (rest : List Bay). f b ∷ rest) (next f bays i d)
-
--- one more is changed
-pub changed_on : (f : Bay → Bay) (bays : List Bay) (i : ℕ) (d : Bay) {now : List Bay} {b : Bay} → now ≡ fronted i (map f bays) bays → b ≡ f (get_or now i d) → set now i b ≡ fronted (i + 1) (map f bays) bays
-changed_on f bays i d e g = rw (g, e, add-one) (next f bays i d)
+pub all_changed : (f : Bay → Bay) (d : Bay) (bays now : List Bay) → length bays ≡ most_phys → length now ≡ most_phys
+    → ((i : ℕ) → i < most_phys → get_or now i d ≡ f (get_or bays i d)) → now ≡ fronted most_phys (map f bays) bays
+all_changed f d bays now l m each =
+    ext_get_or d now (map f bays) (m ∙ sym (length-map bays f ∙ l)) (λ i h. each i (omega (arith, m)) ∙ sym (get_or-map f bays i d d (omega (arith, l, m))))
+    ∙ sym (append-nil (map f bays))
+    ∙ ap (λ (rest : List Bay). map f bays ++ rest) (sym (drop_of_length-le bays {i = most_phys} (omega (arith, l))))
+    ∙ ap (λ (front : List Bay). front ++ drop most_phys bays) (sym (take_all most_phys (map f bays) (omega (arith, l, length-map bays f))))

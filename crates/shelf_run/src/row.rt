@@ -1,6 +1,6 @@
 // A row's records, into a table by value and back.
 ghost use Rattle.std.specs.Prelude.{◌≡◌};
-ghost use Rattle.shelf_run.specs.Rows.{fitting, loaded, stored};
+ghost use Rattle.shelf_run.specs.Rows.{loaded, stored};
 ghost use Rattle.shelf_run.specs.Promises.{Runs};
 
 use crate::events::{empty, over};
@@ -8,37 +8,23 @@ use crate::{Ran, Table};
 use bay::Bay;
 use port::{MOST_PHYS, begun, survey};
 
-// How many records of a row a table holds.
-pub(crate) fn fitting(n: usize) -> usize
-    ensures { result ≡ fitting n }
-{
-    if n < MOST_PHYS { n } else { MOST_PHYS }
-}
-
 // The records of a row, as many as fit.
 pub(crate) fn load(row: &[Bay], table: Table) -> Table
     ensures { result.bays ≡ loaded row.now table.bays }
 {
-    let mut filled = table;
-    let n = fitting(row.len());
-    let mut i = 0;
-    while i < n {
-        filled.bays[i] = row[i];
-        i += 1;
-    }
-    filled
+    let n = row.len().min(MOST_PHYS);
+    let mut bays = table.bays;
+    bays[..n].copy_from_slice(&row[..n]);
+    Table { bays }
 }
 
 // The records of a table put back into the row, as many as fit; what is behind them is left.
 pub(crate) fn store(row: &mut [Bay], table: Table)
     ensures { row.new ≡ stored row.old table.bays }
 {
-    let n = fitting(row.len());
-    let mut i = 0;
-    while i < n {
-        row[i] = table.bays[i];
-        i += 1;
-    }
+    let n = row.len().min(MOST_PHYS);
+    let bays = table.bays;
+    row[..n].copy_from_slice(&bays[..n]);
 }
 
 // Any row, queue, trace, budget and buffer. The rules are in `over`; this lends, and puts back.

@@ -11,9 +11,8 @@ use Rattle.event.specs.Table.{event_of}
 use Rattle.event.specs.declared.Event.{Event}
 use Rattle.trace.specs.Reading.{Told, event, end, refused, read_event, event_given, place_reached, tells}
 use Rattle.trace.specs.Promises.{ReadsEvent, TakesNext}
-use Rattle.trace.specs.Laws.{Passes, here, on, ReadsAll, ended, taken, Calls, uncalled, called, GivesEvents, nothing, given, FaultStays, StaysPut, FirstEvents, CalledBack}
-use Rattle.trace.specs.declared.EventRead.{EventRead}
-use Rattle.trace.specs.declared.EventRead.TheVariants.{Event as Known}
+use Rattle.trace.specs.Laws.{Read, Passes, here, on, ReadsAll, ended, taken, Calls, uncalled, called, GivesEvents, nothing, given, FaultStays, StaysPut, FirstEvents, CalledBack}
+use Rattle.std.specs.Prelude.{Some, Ok}
 use Rattle.trace.specs.declared.Reader.{Reader}
 use Rattle.trace.proofs.Determined.{read_once, determined}
 use Rattle.trace.proofs.Refusals.{fault_at_first}
@@ -39,7 +38,7 @@ zero_given end n = refl
 zero_given (refused k at) n = refl
 
 -- the reader stands still
-still : {before : Reader} (r : EventRead) {after : Reader} → TakesNext before r after → NoEvent (tells r) → after ≡ before
+still : {before : Reader} (r : Read) {after : Reader} → TakesNext before r after → NoEvent (tells r) → after ≡ before
 still {before} r t n = t.leaves ∙ ap (λ (place : ℕ). record { trace = before.trace; place = place }) (ap (place_reached before.place) (sym t.says) ∙ no_move (tells r) n before.place)
 
 pub fault_stays : FaultStays
@@ -51,13 +50,13 @@ fault_stays before r after n at t e =
       stays = still r t none;
     }
 
-again : {before after : Reader} (r : EventRead) (rs : List EventRead) → ReadsEvent before.trace.now before.place r → NoEvent (tells r) → Calls before rs after
+again : {before after : Reader} (r : Read) (rs : List Read) → ReadsEvent before.trace.now before.place r → NoEvent (tells r) → Calls before rs after
     → (rs ≡ replicate (length rs) r) × (after ≡ before)
 again r [] e n uncalled = (refl, refl)
 again {before} {after} r (q ∷ rs) e n (called t c) =
     let same : q ≡ r = determined.event_at before.trace.now before.place q r t.says e in
     let more = again r rs e n (subst (λ (m : Reader). Calls m rs after) (still q t (rw same n)) c) in
-    (ap₂ (λ (x : EventRead) (l : List EventRead). x ∷ l) same more.0, more.1)
+    (ap₂ (λ (x : Read) (l : List Read). x ∷ l) same more.0, more.1)
 
 pub stays_put : StaysPut
 stays_put before after r rs (called t c) n =
@@ -66,12 +65,12 @@ stays_put before after r rs (called t c) n =
 
 -- ---- events
 
-events_of : {s : List ℕ} {place : ℕ} {rs : List EventRead} {es : List Event} {last : ℕ} → GivesEvents s place rs es last → map (λ r. event_given (tells r)) rs ≡ es
+events_of : {s : List ℕ} {place : ℕ} {rs : List Read} {es : List Event} {last : ℕ} → GivesEvents s place rs es last → map (λ r. event_given (tells r)) rs ≡ es
 events_of nothing = refl
 events_of (given {e} h g) = ap (λ (l : List Event). e ∷ l) (events_of g)
 
 first_from :
-    (rs : List EventRead) {start after : Reader} {es : List Event} {last : ℕ}
+    (rs : List Read) {start after : Reader} {es : List Event} {last : ℕ}
     → Passes start.trace.now start.place es last → Calls start rs after → length rs ≤ length es
     → GivesEvents start.trace.now start.place rs (take (length rs) es) after.place
     × Passes start.trace.now after.place (drop (length rs) es) last
@@ -80,7 +79,7 @@ first_from (r ∷ rs) here (called t c) h = absurd (omega arith)
 first_from (r ∷ rs) {start} {after} (on {e = e} {next} a p) (called t c) h =
     let there : ◌≡◌ {A = Reader} _ (record { trace = start.trace; place = next }) = rw a at t.leaves in
     let more = first_from rs p (subst (λ (m : Reader). Calls m rs after) there c) (omega arith) in
-    rw (read_once r (Known e next) (t.says ∙ a)) (given a more.0, more.1)
+    rw (read_once r (Ok (Some (record { value = e; next = next }))) (t.says ∙ a)) (given a more.0, more.1)
 
 pub first_events : FirstEvents
 first_events trace start after es last rs new p c h =
@@ -101,7 +100,7 @@ passed (taken e r) = let p = passed r in record { last = p.last; passes = on e p
 no_more : {s : List ℕ} {place last : ℕ} → Passes s place [] last → place ≡ last
 no_more here = refl
 
-trace_kept : {start after : Reader} {rs : List EventRead} → Calls start rs after → after.trace ≡ start.trace
+trace_kept : {start after : Reader} {rs : List Read} → Calls start rs after → after.trace ≡ start.trace
 trace_kept uncalled = refl
 trace_kept (called t c) = trace_kept c ∙ ap (λ (m : Reader). m.trace) t.leaves
 

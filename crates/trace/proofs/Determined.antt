@@ -1,49 +1,48 @@
 -- Each result says one thing, so a contract that gives what is said gives the result.
-use mathlib.Core.List.{[], ◌∷◌}
-use mathlib.Core.Path.{◌≡◌, refl}
-use Rattle.table.specs.Choice.{◌⇒◌, rows}
-use Rattle.table.specs.Refusals.{bad_event, cut}
+use Prim.Native.Nat.{ℕ}
+use mathlib.Core.Path.{◌≡◌, refl, ap}
+use Rattle.std.specs.Prelude.{Some, None, Result, Ok, Err}
 use Rattle.table.specs.Results.{TellsOnce}
-use Rattle.table.proofs.Results.{leads_back, by_telling, by_equation, with_lent}
+use Rattle.table.specs.declared.Refusal.{Refusal}
+use Rattle.table.proofs.Results.{leads_back, refusal_of, refusal_back, by_telling, by_equation, with_lent}
 use Rattle.trace.specs.Reading.{Told, event, end, tells}
 use Rattle.trace.specs.Reading as reading
 use Rattle.trace.specs.Writing.{ToldWritten, wrote, tells_written}
 use Rattle.trace.specs.Writing as writing
-use Rattle.trace.specs.Laws.{Determined}
-use Rattle.trace.specs.declared.EventRead.{EventRead}
-use Rattle.trace.specs.declared.EventRead.TheVariants as read
-use Rattle.trace.specs.declared.EventWritten.{EventWritten}
-use Rattle.trace.specs.declared.EventWritten.TheVariants as written
+use Rattle.trace.specs.Laws.{Read, Determined, ReachesTold}
+use Rattle.trace.specs.declared.Fault.{Fault}
 
 -- what is said tells which result said it
-answer : Told → EventRead
-answer (event e next) = read.Event e next
-answer end = read.End
-answer (reading.refused n at) = rows n ((bad_event ⇒ read.BadEvent at) ∷ (cut ⇒ read.Cut at) ∷ []) (read.TooLarge at)
+answer : Told → Read
+answer (event e next) = Ok (Some (record { value = e; next = next }))
+answer end = Ok None
+answer (reading.refused n at) = Err (record { refusal = refusal_of n; place = at })
 
-answers : (r : EventRead) → answer (tells r) ≡ r
+answers : (r : Read) → answer (tells r) ≡ r
 unfolding answer
-answers (read.Event e next) = refl
-answers read.End = refl
-answers (read.BadEvent first) = refl
-answers (read.Cut first) = refl
-answers (read.TooLarge first) = refl
+answers (Ok (Some found)) = refl
+answers (Ok None) = refl
+answers (Err f) = ap (λ (refusal : Refusal). Err (record { refusal = refusal; place = f.place })) (refusal_back f.refusal)
 
 pub read_once : TellsOnce tells
 read_once = leads_back answer answers
 
-answer_written : ToldWritten → EventWritten
-answer_written (wrote n) = written.Length n
-answer_written (writing.refused n) = rows n ((bad_event ⇒ written.BadEvent) ∷ []) written.NoRoom
+answer_written : ToldWritten → Result ℕ Refusal
+answer_written (wrote n) = Ok n
+answer_written (writing.refused n) = Err (refusal_of n)
 
-answers_written : (r : EventWritten) → answer_written (tells_written r) ≡ r
+answers_written : (r : Result ℕ Refusal) → answer_written (tells_written r) ≡ r
 unfolding answer_written
-answers_written (written.Length n) = refl
-answers_written written.BadEvent = refl
-answers_written written.NoRoom = refl
+answers_written (Ok n) = refl
+answers_written (Err refusal) = ap Err (refusal_back refusal)
 
 pub written_once : TellsOnce tells_written
 written_once = leads_back answer_written answers_written
+
+pub reaches_told : ReachesTold
+reaches_told (Ok (Some found)) place = refl
+reaches_told (Ok None) place = refl
+reaches_told (Err f) place = refl
 
 pub determined : Determined
 determined =

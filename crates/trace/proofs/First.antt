@@ -16,7 +16,7 @@ unfolding read_event
 at_end_lem s place h = rw (le-leb (length s) place h) refl
 
 module _ (s : List ℕ) (place : ℕ) (h : place < length s) where
-  within_trace : read_event s place ≡ said place (read_numbers s place)
+  pub within_trace : read_event s place ≡ said place (read_numbers s place)
   unfolding read_event
   within_trace = rw (lt-leb (length s) place h) refl
 

@@ -10,7 +10,7 @@ use Rattle.event.specs.declared.Event.{Event}
 use Rattle.trace.specs.Writing.{event_bytes, trace_bytes}
 use Rattle.trace.specs.Promises.{WritesEvent}
 use Rattle.trace.specs.Laws.{AllKnown, WritesAll, done, put, Writable, AllWritten, WritableExactly}
-use Rattle.trace.specs.declared.EventWritten.TheVariants.{Length}
+use Rattle.std.specs.Prelude.{Ok}
 use Rattle.trace.proofs.WriteLoop.{with_room}
 use Rattle.trace.proofs.RoundTrip.{fitted, earlier_kept, later_kept, trace_back_from}
 
@@ -22,7 +22,7 @@ record Stored (before : List ℕ) (place : ℕ) (es : List Event) (after : List 
   pub far : last ≡ place + length (trace_bytes es)
   pub room : last ≤ length before
 
-module _ (e : Event) (before middle : List ℕ) (place n : ℕ) (c : WritesEvent e before place (Length n) middle) where
+module _ (e : Event) (before middle : List ℕ) (place n : ℕ) (c : WritesEvent e before place (Ok n) middle) where
   stored_one : middle ≡ sets before place (event_bytes e)
   stored_one = c.leaves ∙ (fitted e before place n (sym c.says)).left
 

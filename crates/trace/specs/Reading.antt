@@ -1,14 +1,15 @@
 -- Reading an event of a trace: its code and then its arguments, each a number that is read and then range-checked.
-use Rattle.std.specs.Prelude.{ℕ, List, [], ◌∷◌, leb, length}
+use Rattle.std.specs.Prelude.{ℕ, List, [], ◌∷◌, Option, Some, None, Result, Ok, Err, leb, length}
 use Rattle.table.specs.Choice.{pick}
-use Rattle.table.specs.Refusals.{bad_event, cut, too_large}
+use Rattle.table.specs.Refusals.{bad_event, number_of}
+use Rattle.table.specs.declared.Refusal.{Refusal}
 use Rattle.number.specs.Reading.{value, read_number}
 use Rattle.number.specs.Reading as number
+use Rattle.number.specs.declared.Found.{Found}
 use Rattle.event.specs.Table.{event_of, arguments_of, within, trace_codes}
 use Rattle.event.specs.declared.Event.{Event}
 use Rattle.event.specs.declared.Range.{Range}
-use Rattle.trace.specs.declared.EventRead.{EventRead}
-use Rattle.trace.specs.declared.EventRead.TheVariants.{Event as Known, End, BadEvent, Cut, TooLarge}
+use Rattle.trace.specs.declared.Fault.{Fault}
 
 -- what reading says: an event and the place after it, the trace's end, or a refusal and where its event starts
 pub data Told : Type 0 where
@@ -72,9 +73,18 @@ place_reached place end = place
 place_reached place (refused n at) = place
 
 -- what each result says, as the paper numbers it
-abbrev pub tells : EventRead → Told
-tells (Known e next) = event e next
-tells End = end
-tells (BadEvent first) = refused bad_event first
-tells (Cut first) = refused cut first
-tells (TooLarge first) = refused too_large first
+abbrev pub tells : Result (Option (Found Event)) Fault → Told
+tells (Ok (Some found)) = event found.value found.next
+tells (Ok None) = end
+tells (Err f) = refused (number_of f.refusal) f.place
+
+-- what reading the numbers of an event says, as the paper numbers it
+abbrev pub tells_numbers : Result (Found Event) Refusal → Got Event
+tells_numbers (Ok found) = got found.value found.next
+tells_numbers (Err refusal) = fault (number_of refusal)
+
+-- the place that a result got at a place has reached, whatever is read
+abbrev pub reached : {T : Type 0} → (place : ℕ) → Result (Option (Found T)) Fault → ℕ
+reached place (Ok (Some found)) = found.next
+reached place (Ok None) = place
+reached place (Err f) = place

@@ -1,13 +1,12 @@
 -- Writing an event of a trace: the bytes of its numbers end to end, at a place of a lent buffer.
-use Rattle.std.specs.Prelude.{ℕ, suc, ◌+◌, Bool, List, [], ◌∷◌, ◌++◌, leb, length, take}
+use Rattle.std.specs.Prelude.{ℕ, suc, ◌+◌, Bool, List, [], ◌∷◌, ◌++◌, Result, Ok, Err, leb, length, take}
 use Rattle.std.proofs.lemmas.List.Edits.{sets}
 use Rattle.table.specs.Choice.{pick}
-use Rattle.table.specs.Refusals.{bad_event, no_room}
+use Rattle.table.specs.Refusals.{bad_event, no_room, number_of}
+use Rattle.table.specs.declared.Refusal.{Refusal}
 use Rattle.number.specs.Writing.{number_bytes}
 use Rattle.event.specs.Table.{argument_count, known_in_trace}
 use Rattle.event.specs.declared.Event.{Event}
-use Rattle.trace.specs.declared.EventWritten.{EventWritten}
-use Rattle.trace.specs.declared.EventWritten.TheVariants.{Length, BadEvent, NoRoom}
 
 -- what writing an event says: how many bytes it wrote, or the number of a refusal
 pub data ToldWritten : Type 0 where
@@ -57,7 +56,6 @@ length_given (wrote n) = n
 length_given (refused n) = 0
 
 -- what each result says, as the paper numbers it
-abbrev pub tells_written : EventWritten → ToldWritten
-tells_written (Length n) = wrote n
-tells_written BadEvent = refused bad_event
-tells_written NoRoom = refused no_room
+abbrev pub tells_written : Result ℕ Refusal → ToldWritten
+tells_written (Ok n) = wrote n
+tells_written (Err refusal) = refused (number_of refusal)

@@ -2,32 +2,21 @@
 // ranges of crate `event`.
 #![tactic(auto)]
 
-ghost use Rattle.std.specs.Prelude.{true, ◌≡◌, length};
+ghost use Rattle.std.specs.Prelude.{true, ◌≡◌, length, suc, take};
 ghost use Rattle.event.specs.Table.{known_in_trace};
 ghost use Rattle.trace.specs.Writing.{all_numbers, event_bytes};
-ghost use Rattle.trace.specs.Promises.{ReadsArguments, ReadsEvent, ReachesPlace, StartsReader, TakesNext};
+ghost use Rattle.trace.specs.Promises.{ReadsArguments, ReadsNumbers, ReadsEvent, ReachesPlace, StartsReader, TakesNext};
 ghost use Rattle.trace.specs.Promises.{HasRoom, FillsBuffer, WritesEvent};
 
 use event::Event;
-use number::{NumberRead, NumberWritten};
+use number::Found;
+use table::Refusal;
 
-// What stands at a place: an event and the place after it, the end of the trace, or why there is none.
-// A refusal has the place of the event's first byte.
-#[derive(Clone, Copy)]
-pub enum EventRead {
-    Event { event: Event, next: usize },
-    End,
-    BadEvent(usize),
-    Cut(usize),
-    TooLarge(usize),
-}
-
-// What writing did: how many bytes it wrote, or why it wrote none.
-#[derive(Clone, Copy)]
-pub enum EventWritten {
-    Length(usize),
-    BadEvent,
-    NoRoom,
+// Why no event stands at a place, and the place of the event's first byte.
+#[derive(Clone, Copy, Debug, PartialEq, Eq)]
+pub struct Fault {
+    pub refusal: Refusal,
+    pub place: usize,
 }
 
 // A lent trace together with the place reached in it.
@@ -37,33 +26,23 @@ pub struct Reader<'a> {
     pub place: usize,
 }
 
-// The arguments of a known code from a place on, in the order of the table; `first` is the place of the
-// event's first byte.
-fn read_arguments(s: &[u8], code: u64, place: usize, first: usize) -> EventRead
-    ensures { ReadsArguments s.now code place first result }
+// The event of a known code, whose arguments stand from a place on, in the order of the table.
+fn read_arguments(s: &[u8], code: u64, place: usize) -> Result<Found<Event>, Refusal>
+    ensures { ReadsArguments s.now code place result }
 {
     let count = event::argument_count(code);
     // An argument that the event lacks stays zero.
     let mut values = [0u64; 6];
     let mut next = place;
-    let mut i: u64 = 0;
-    while i < count {
-        match number::read_number(s, next) {
-            NumberRead::Value { value, next: after } => {
-                let range = event::argument_range(code, i);
-                let least = range.least;
-                let most = range.most;
-                if (least <= value) & (value <= most) {
-                    values[i as usize] = value;
-                    next = after;
-                    i += 1;
-                } else {
-                    return EventRead::BadEvent(first);
-                }
-            }
-            NumberRead::Cut => return EventRead::Cut(first),
-            NumberRead::TooLarge => return EventRead::TooLarge(first),
+    for i in 0..count {
+        let argument = number::read_number(s, next)?;
+        let range = event::argument_range(code, i);
+        let in_range = (range.least <= argument.value) & (argument.value <= range.most);
+        if !in_range {
+            return Err(Refusal::BadEvent);
         }
+        values[i as usize] = argument.value;
+        next = argument.next;
     }
     let event = Event {
         code,
@@ -74,58 +53,60 @@ fn read_arguments(s: &[u8], code: u64, place: usize, first: usize) -> EventRead
         fifth: values[4],
         sixth: values[5],
     };
-    EventRead::Event { event, next }
+    Ok(Found { value: event, next })
 }
 
-// What stands at a place of a trace; any place is taken, and past the last byte the trace has ended.
-pub fn event_at(trace: &[u8], place: usize) -> EventRead
+// The numbers of an event from a place on: its code, and its arguments once the code is known.
+fn read_numbers(s: &[u8], place: usize) -> Result<Found<Event>, Refusal>
+    ensures { ReadsNumbers s.now place result }
+{
+    let code = number::read_number(s, place)?;
+    if event::code_in_trace(code.value) {
+        return read_arguments(s, code.value, code.next);
+    }
+    Err(Refusal::BadEvent)
+}
+
+// What stands at a place of a trace; any place is taken, and past the last byte, with no event, the trace has
+// ended.
+pub fn event_at(trace: &[u8], place: usize) -> Result<Option<Found<Event>>, Fault>
     ensures { ReadsEvent trace.now place result }
 {
     if trace.len() <= place {
-        return EventRead::End;
+        return Ok(None);
     }
-    match number::read_number(trace, place) {
-        NumberRead::Value { value, next } => {
-            // An unknown code has no arguments to read.
-            if event::code_in_trace(value) {
-                read_arguments(trace, value, next, place)
-            } else {
-                EventRead::BadEvent(place)
-            }
-        }
-        NumberRead::Cut => EventRead::Cut(place),
-        NumberRead::TooLarge => EventRead::TooLarge(place),
+    match read_numbers(trace, place) {
+        Ok(found) => Ok(Some(found)),
+        Err(refusal) => Err(Fault { refusal, place }),
     }
 }
 
-// The place that reading at `place` has reached: only an event moves it.
-pub fn place_reached(read: EventRead, place: usize) -> usize
+// The place that reading at `place` has reached, whatever is read: only an event moves it.
+pub fn place_reached<T: Copy>(read: Result<Option<Found<T>>, Fault>, place: usize) -> usize
     ensures { ReachesPlace read place result }
 {
     match read {
-        EventRead::Event { event: _, next } => next,
-        EventRead::End => place,
-        EventRead::BadEvent(_) => place,
-        EventRead::Cut(_) => place,
-        EventRead::TooLarge(_) => place,
+        Ok(Some(found)) => found.next,
+        _ => place,
     }
 }
 
-// A reader at the first byte of a trace.
-pub fn new<'a>(trace: &'a [u8]) -> Reader<'a>
-    ensures { StartsReader trace.entry result }
-{
-    Reader { trace, place: 0 }
-}
+impl<'a> Reader<'a> {
+    // A reader at the first byte of a trace.
+    pub fn new(trace: &'a [u8]) -> Reader<'a>
+        ensures { StartsReader trace.entry result }
+    {
+        Reader { trace, place: 0 }
+    }
 
-// What stands at a reader's place; after an event the reader stands behind it.
-pub fn next<'a>(reader: &mut Reader<'a>) -> EventRead
-    ensures { TakesNext reader.old result reader.new }
-{
-    let place = reader.place;
-    let read = event_at(reader.trace, place);
-    reader.place = place_reached(read, place);
-    read
+    // What stands at the reader's place; after an event the reader stands behind it.
+    pub fn next(&mut self) -> Result<Option<Found<Event>>, Fault>
+        ensures { TakesNext self.old result self.new }
+    {
+        let read = event_at(self.trace, self.place);
+        self.place = place_reached(read, self.place);
+        read
+    }
 }
 
 // An event's code and its six arguments, also those that it lacks.
@@ -142,14 +123,11 @@ fn event_length(e: Event) -> usize
     requires { known_in_trace e ≡ true }
     ensures { result ≡ length (event_bytes e) }
 {
-    let code = e.code;
-    let count = event::argument_count(code);
+    let count = event::argument_count(e.code);
     let numbers = all_numbers(e);
     let mut length: usize = 0;
-    let mut i: u64 = 0;
-    while i <= count {
-        length += number::number_length(numbers[i as usize]);
-        i += 1;
+    for number in &numbers[..=count as usize] {
+        length += number::number_length(*number);
     }
     length
 }
@@ -159,38 +137,25 @@ fn write_numbers(e: Event, buffer: &mut [u8], place: usize)
     requires { HasRoom e buffer.old place }
     ensures { FillsBuffer e buffer.old place buffer.new }
 {
-    let code = e.code;
-    let count = event::argument_count(code);
+    let count = event::argument_count(e.code);
     let numbers = all_numbers(e);
     let mut at = place;
-    let mut i: u64 = 0;
-    while i <= count {
-        match number::write_number(numbers[i as usize], buffer, at) {
-            NumberWritten::Length(length) => {
-                at += length;
-                i += 1;
-            }
-            // Not met: the room was found before the first byte.
-            NumberWritten::NoRoom => return,
-        }
+    for number in &numbers[..=count as usize] {
+        at += number::write_number(*number, buffer, at).unwrap();
     }
 }
 
 // An event's bytes at a place of a buffer, once it is known and they are known to fit.
-pub fn write_event(e: Event, buffer: &mut [u8], place: usize) -> EventWritten
+pub fn write_event(e: Event, buffer: &mut [u8], place: usize) -> Result<usize, Refusal>
     ensures { WritesEvent e buffer.old place result buffer.new }
 {
-    if event::known_in_trace(e) {
-        let length = event_length(e);
-        if buffer.len() < place {
-            return EventWritten::NoRoom;
-        }
-        if buffer.len() - place < length {
-            return EventWritten::NoRoom;
-        }
-        write_numbers(e, buffer, place);
-        EventWritten::Length(length)
-    } else {
-        EventWritten::BadEvent
+    if !event::known_in_trace(e) {
+        return Err(Refusal::BadEvent);
     }
+    let length = event_length(e);
+    if buffer.len().saturating_sub(place) < length {
+        return Err(Refusal::NoRoom);
+    }
+    write_numbers(e, buffer, place);
+    Ok(length)
 }

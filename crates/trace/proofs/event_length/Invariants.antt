@@ -1,10 +1,6 @@
 -- `trace::event_length` meets its contract: each turn adds the bytes of one number, ten at most.
-use Prim.Native.Nat.{suc, ◌-◌}
 use Rattle.trace.proofs.WriteLoop.{Counted}
 use Rattle.trace.proofs.event_length.Given as goal
 
-abbrev pub invariant-loop-i : goal.invariant-loop-i
-invariant-loop-i l = Counted l.count l.numbers l.length l.i
-
-abbrev pub decreases-loop-i : goal.decreases-loop-i
-decreases-loop-i l = suc l.count - l.i
+abbrev pub invariant-loop-number : goal.invariant-loop-number
+invariant-loop-number l = Counted l.number-items l.length l.number-index

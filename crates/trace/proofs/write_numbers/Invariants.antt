@@ -1,10 +1,6 @@
 -- `trace::write_numbers` meets its contract: each turn stores the bytes of one number, and room for the rest is left.
-use Rattle.std.proofs.Common.{suc, ◌-◌}
 use Rattle.trace.proofs.WriteLoop.{Filling}
 use Rattle.trace.proofs.write_numbers.Given as goal
 
-abbrev pub invariant-loop-i : goal.invariant-loop-i
-invariant-loop-i l = Filling l.count l.numbers l.initial.buffer l.place l.buffer l.at l.i
-
-abbrev pub decreases-loop-i : goal.decreases-loop-i
-decreases-loop-i l = suc l.count - l.i
+abbrev pub invariant-loop-number : goal.invariant-loop-number
+invariant-loop-number l = Filling l.number-items l.initial.buffer l.place l.buffer l.at l.number-index
