@@ -33,6 +33,7 @@ ends_line bytes before n r q after later a b =
 pub determined : Determined
 determined =
     record {
+      bytes = λ buffer n. by_equation _;
       put_all = λ bytes before n. by_result_lent (λ r q e. e) (λ r after a. record { says = a.puts.there; leaves = a.puts.stored });
       put_more = λ value numbers. puts (more_of value numbers);
       put_numbers = λ first others. puts (numbers_text first others);

@@ -60,6 +60,14 @@ extends_then p q = record { puts = puts_then p.puts q.puts; same_buffer = q.same
 pub extends_line : {xs ys : List ℕ} {old mid new : Text} → Extends (Puts xs) old mid → Extends (PutsLine ys) mid new → Extends (PutsLine (xs ++ ys)) old new
 extends_line p q = record { puts = puts_line p.puts q.puts; same_buffer = q.same_buffer ∙ p.same_buffer }
 
+pub extends_all : {bytes : List ℕ} {old new : Text} → Extends (PutsAll bytes) old new → Extends (Puts bytes) old new
+extends_all p = record { puts = p.puts.puts; same_buffer = p.same_buffer }
+
+-- a text that began at its buffer's start, with room for all that was put
+pub extends_whole : {bytes : List ℕ} {old new : Text} → Extends (Puts bytes) old new → old.n ≡ 0 → length bytes ≤ length old.out.now → take new.n new.out.now ≡ bytes
+extends_whole {bytes} {old} {new} p start room =
+    puts_whole {n = 0} (subst (λ (n : ℕ). Puts bytes old.out.now n new.n new.out.now) start p.puts) (omega (arith, room))
+
 -- ---- the invariant of a loop that writes: what is left, written from here, makes the whole
 
 pub record Putting (whole before : List ℕ) (n : ℕ) (left out : List ℕ) (end : ℕ) : Type 0 where

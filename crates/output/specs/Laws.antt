@@ -2,7 +2,7 @@
 use Rattle.std.specs.Prelude.{ℕ, ◌≤◌, List, ◌⊎◌, ◌≡◌, length}
 use Rattle.table.specs.Results.{Determines, DeterminesLent}
 use Rattle.output.specs.Writing.{lost}
-use Rattle.output.specs.Promises.{Puts, PutsAll, PutsMore, PutsNumbers, WritesOut, TellsLost, PutsLine, EndsLine}
+use Rattle.output.specs.Promises.{ShowsBytes, Puts, PutsAll, PutsMore, PutsNumbers, WritesOut, TellsLost, PutsLine, EndsLine}
 use Rattle.output.specs.Promises.{PutsNumbersLine, Loses, ReadsInto}
 
 -- ---- results are determined (proofs/Determined)
@@ -19,6 +19,7 @@ DeterminesUnlessLost Contract =
 -- two results that a function may give coincide, and so do the buffers that it may leave; of `read_full` where there is
 -- no room, since nothing is read
 pub record Determined : Type 1 where
+  pub bytes : (buffer : List ℕ) (n : ℕ) → Determines (ShowsBytes buffer n)
   pub put_all : (bytes before : List ℕ) (n : ℕ) → DeterminesLent (PutsAll bytes before n)
   pub put_more :
       {T : Type 0} (value : T → ℕ) (numbers : List T) (before : List ℕ) (n : ℕ)

@@ -1,5 +1,5 @@
 -- What each function promises, cited by its `ensures` and, of the public ones, by `Determined` in Laws.
-use Rattle.std.specs.Prelude.{ℕ, ◌≤◌, Bool, List, [], ◌∷◌, ◌⊎◌, ◌≡◌, eqb, length}
+use Rattle.std.specs.Prelude.{ℕ, ◌≤◌, Bool, List, [], ◌∷◌, ◌⊎◌, ◌≡◌, eqb, length, take}
 use Rattle.std.proofs.lemmas.List.Edits.{sets}
 use Rattle.table.specs.Choice.{pick}
 use Rattle.output.specs.Writing.{newline, more_of, numbers_text, line, reached, gathered, lost, stays_gathered}
@@ -9,6 +9,10 @@ use Rattle.output.specs.declared.Text.{Text}
 pub record Extends (Contract : (before : List ℕ) (n r : ℕ) (after : List ℕ) → Type 0) (old new : Text) : Type 0 where
   pub puts : Contract old.out.now old.n new.n new.out.now
   pub same_buffer : new.out.ghost_name ≡ old.out.ghost_name
+
+-- `bytes` of a text that goes on at n in a buffer
+abbrev pub ShowsBytes : (buffer : List ℕ) (n : ℕ) (r : List ℕ) → Type 0
+ShowsBytes buffer n r = r ≡ take n buffer
 
 -- writing bytes at n into the buffer `before`, which leaves it as `after`: a byte that has no room changes nothing
 pub record Puts (bytes before : List ℕ) (n r : ℕ) (after : List ℕ) : Type 0 where

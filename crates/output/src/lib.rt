@@ -4,7 +4,7 @@
 ghost use Rattle.std.specs.Prelude.{ℕ, [], ◌⊎◌, ◌∷◌, ◌≡◌};
 ghost use Rattle.output.specs.Decimal.{decimal};
 ghost use Rattle.output.specs.Writing.{further, lost};
-ghost use Rattle.output.specs.Promises.{Extends, Puts, PutsAll, PutsMore, PutsNumbers};
+ghost use Rattle.output.specs.Promises.{Extends, ShowsBytes, Puts, PutsAll, PutsMore, PutsNumbers};
 ghost use Rattle.output.specs.Promises.{GoesOut, TellsLost, EndsLine, PutsNumbersLine};
 
 mod system;
@@ -59,6 +59,13 @@ impl<'a> Text<'a> {
         ensures start { result.n ≡ 0 }
     {
         Text { out, n: 0 }
+    }
+
+    // What is gathered, as far as the buffer holds it.
+    pub fn bytes(&self) -> &[u8]
+        ensures { ShowsBytes self.now.out.now self.now.n result.now }
+    {
+        &self.out[..self.n.min(self.out.len())]
     }
 
     fn put(&mut self, b: u8)
@@ -118,13 +125,12 @@ impl<'a> Text<'a> {
         self.n == LOST
     }
 
-    // Writes what is gathered, as far as the buffer holds it, and gives the place after that. What is lost is
-    // told on standard error; whoever closed a pipe needs no telling.
+    // Writes what is gathered and gives the place after that. What is lost is told on standard error; whoever
+    // closed a pipe needs no telling.
     fn place_written(&self, rt: &(impl Print + Eprint)) -> usize
         ensures { (result ≡ 0) ⊎ (result ≡ lost) }
     {
-        let count = self.n.min(self.out.len());
-        match rt.write_all(&self.out[..count]) {
+        match rt.write_all(self.bytes()) {
             Ok(()) => 0,
             Err(error) if error.kind() == ErrorKind::BrokenPipe => LOST,
             Err(error) => fail(rt, "not all was written to standard output", &error),
