@@ -10,17 +10,17 @@ pub determined : Determined
 determined =
     record {
       take = λ s place. by_result (λ r a. a.says);
-      take_bytes = λ s place. by_result (λ r a. a.says);
-      take_many = λ s place before. by_result_lent (λ r q e. e) (λ r after a. record { says = a.there; leaves = a.numbers });
+      take_bytes = λ s place. by_result (λ r a i. record { value = a.says i; next = a.there i });
+      take_many = λ before s place. by_result (λ r a i. record { value = a.numbers i; next = a.there i });
       phy_of = λ f. by_equation _;
       phy_numbers = λ p. by_equation _;
       event_of = λ f. by_equation _;
       put_piece = λ piece times before n. by_result_lent (λ r q e. e) (λ r after a. record {
-        says = λ i. record { length = a.puts.there i; whole = a.whole i };
+        says = λ i. (a.whole_says i, a.puts.there i);
         leaves = a.puts.stored;
       });
-      put_pieces = λ s place before. by_result_lent (λ r q e. e) (λ r after a. record {
-        says = λ i. record { next = a.there i; length = a.puts.there i; whole = a.whole i };
+      put_pieces = λ s place before n. by_result_lent (λ r q e. e) (λ r after a. record {
+        says = λ i. (a.there i, a.whole_says i, a.puts.there i);
         leaves = a.puts.stored;
       });
       put_repeats = λ kind bytes. output-determined.put_line kind (pairs_after 0 bytes);

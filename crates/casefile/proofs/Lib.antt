@@ -1,6 +1,5 @@
 pub mod Numbers
 pub mod Filling
 pub mod Repeating
-pub mod Front
 pub mod Sliding
 pub mod Determined

@@ -1,24 +1,33 @@
 -- The invariant of taking many numbers: those stored and those still to be taken from here are all of them.
 use Prim.Native.Nat.{ℕ, suc, ◌+◌, ◌-◌, ◌≤◌, ◌<◌, max}
 use mathlib.Core.List.{List, ◌++◌, append-nil}
-use mathlib.Core.Path.{◌≡◌, refl, sym, ap, ◌∙◌}
+use mathlib.Core.Path.{◌≡◌, refl, sym, ap, subst, ◌∙◌}
 use native.Mathlib.Numerals.{add-one}
 use native.Mathlib.Omega.{arith}
 use lib.ListN.{length, take, set, length-set}
 use lib.Seq.{take_all, take-suc-set, append_snoc}
-use Rattle.number.specs.Reading.{value, refused, read_number}
+use Rattle.number.specs.Reading.{tells, read_number}
+use Rattle.std.specs.Prelude.{Result, Ok, Err}
+use Rattle.std.specs.Result.{result_unwrap_or}
+use Rattle.table.specs.declared.Refusal.{Refusal}
 use Rattle.number.proofs.Refusals.{read_moves_on}
 use Rattle.casefile.specs.Reading.{taken_of, taken, numbers_at, place_after}
-use Rattle.casefile.specs.Promises.{TakesNumber, TakesNumbers}
-use Rattle.casefile.specs.declared.Taken.{Taken}
+use Rattle.casefile.specs.Promises.{Reads, TakesNumber, TakesNumbers}
+use Rattle.casefile.specs.declared.input.Input.{Input}
+use Rattle.number.specs.declared.Found.{Found}
+use Rattle.std.proofs.Common.{Bor}
 
-pub takes_value : (s : List ℕ) (place v next : ℕ) → read_number s place ≡ value v next → TakesNumber s place (record { value = v; next = next })
+-- what is taken where the reader gave this
+pub takes : (s : List ℕ) (place : ℕ) (r : Result (Found ℕ) Refusal) → tells r ≡ read_number s place
+    → TakesNumber s place (result_unwrap_or r (record { value = 0; next = length s }))
 unfolding taken
-takes_value s place v next e = record { says = sym (ap (taken_of (length s)) e); within = (read_moves_on s place v next e).within }
+takes s place (Ok found) e = record { says = ap (taken_of (length s)) e; within = (read_moves_on s place found.value found.next (sym e)).within }
+takes s place (Err refusal) e = record { says = ap (taken_of (length s)) e; within = omega arith }
 
-pub takes_end : (s : List ℕ) (place n : ℕ) → read_number s place ≡ refused n → TakesNumber s place (record { value = 0; next = length s })
-unfolding taken
-takes_end s place n e = record { says = sym (ap (taken_of (length s)) e); within = omega arith }
+-- what is read of an input whose file is another's
+pub reads_at : {T : Type 0} {Contract : List ℕ → ℕ → Found T → Type 0} {old new : Input} {r : T} {file : Bor (List ℕ)} → old.s ≡ file → Reads Contract old new r
+    → Contract file.now old.place (record { value = r; next = new.place })
+reads_at {Contract = Contract} {old} {new} {r} e p = subst (λ (s : Bor (List ℕ)). Contract s.now old.place (record { value = r; next = new.place })) e p.found
 
 pub record Taking (s : List ℕ) (place : ℕ) (before numbers : List ℕ) (next i : ℕ) : Type 0 where
   pub left : ℕ
@@ -32,7 +41,7 @@ pub taking_start : (s : List ℕ) (place : ℕ) (before : List ℕ) → Taking s
 taking_start s place before = record { left = length before; here = omega arith; long = refl; there = refl; within = omega arith; found = refl }
 
 module _ {s : List ℕ} {place : ℕ} {before numbers : List ℕ} {next i : ℕ} (t : Taking s place before numbers next i) where
-  pub taking_on : i < length numbers → {r : Taken} → TakesNumber s next r → Taking s place before (set numbers i r.value) r.next (i + 1)
+  pub taking_on : i < length numbers → {r : Found ℕ} → TakesNumber s next r → Taking s place before (set numbers i r.value) r.next (i + 1)
   unfolding numbers_at place_after
   taking_on h {r} n =
       let l : ℕ = t.left - 1 in
@@ -48,7 +57,7 @@ module _ {s : List ℕ} {place : ℕ} {before numbers : List ℕ} {next i : ℕ}
             (append_snoc (take i numbers) r.value (numbers_at l s r.next) ∙ rw n.says (rw one at t.found));
       }
 
-  pub taking_done : length numbers ≤ i → TakesNumbers s place before next numbers
+  pub taking_done : length numbers ≤ i → TakesNumbers before s place (record { value = numbers; next = next })
   unfolding numbers_at place_after
   taking_done h =
       let none : t.left ≡ 0 = omega (arith, t.here, t.long) in

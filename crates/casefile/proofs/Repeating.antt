@@ -1,29 +1,21 @@
 -- The invariant of telling a buffer in few numbers: the pairs still to come, where so many bytes of their first run have passed, make the line with what is written.
 use Prim.Native.Nat.{ℕ, ◌+◌, ◌≤◌, ◌<◌}
-use mathlib.Core.Bool.{true, false, not}
+use mathlib.Core.Bool.{true, false}
 use mathlib.Core.List.{List, [], ◌∷◌, ◌++◌, append-nil, append_assoc}
 use mathlib.Core.Path.{◌≡◌, sym, ap, subst, ◌∙◌, refl}
 use native.Mathlib.Numerals.{add-one}
 use native.Mathlib.Omega.{arith}
-use lib.Dec.{eqb}
 use lib.ListN.{length, drop, get_or, drop_of_length-le}
 use lib.Seq.{drop-cons}
 use Rattle.output.specs.Decimal.{decimal}
-use Rattle.output.specs.Writing.{further, more, numbers_text}
+use Rattle.output.specs.Writing.{further, more_of, more, numbers_text}
 use Rattle.output.specs.Promises.{Puts, EndsLine}
 use Rattle.output.proofs.Places.{Putting, putting_start, puts_none, puts_then, puts_long, puts_line}
 use Rattle.casefile.specs.Pieces.{ends_run, pairs_after}
 use Rattle.casefile.specs.Promises.{PutsRepeats}
 
--- past the end, and at a byte
-pub ends_past : (b : ℕ) (bytes : List ℕ) (i : ℕ) → length bytes ≤ i → true ≡ ends_run b (drop i bytes)
-ends_past b bytes i h = rw (drop_of_length-le bytes h) refl
-
-pub ends_before : (b : ℕ) (bytes : List ℕ) (i : ℕ) → i < length bytes → not (eqb (get_or bytes i 0) b) ≡ ends_run b (drop i bytes)
-ends_before b bytes i h = rw (drop-cons bytes i 0 h) refl
-
 more_append : (xs ys : List ℕ) → more (xs ++ ys) ≡ more xs ++ more ys
-unfolding more
+unfolding more_of
 more_append [] ys = refl
 more_append (x ∷ xs) ys = ap (λ (l : List ℕ). further x ++ l) (more_append xs ys) ∙ sym (append_assoc (further x) (more xs) (more ys))
 
@@ -65,7 +57,7 @@ module _ {bytes before out : List ℕ} {n end count i : ℕ} (q : Repeating byte
 -- the kind before the pairs, and the end of the line behind them
 pub repeating_done : (kind : ℕ) {bytes first before out after : List ℕ} {n m end count i r : ℕ} → Puts (numbers_text kind []) first n m before → Repeating bytes before m out end count i → length bytes ≤ i
     → EndsLine out end r after → PutsRepeats kind bytes first n r after
-unfolding pairs_after more
+unfolding pairs_after more_of
 repeating_done kind {bytes} {first} {before} {out} {n = n} {end = end} head q h p =
     let pairs : Puts (more (pairs_after 0 bytes)) before _ end out = q.rest.rest end out (rw (drop_of_length-le bytes h) (puts_none out end)) in
     puts_line (subst (λ (l : List ℕ). Puts (l ++ more (pairs_after 0 bytes)) first n end out) (append-nil (decimal kind)) (puts_then head pairs)) p

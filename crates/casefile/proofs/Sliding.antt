@@ -7,17 +7,20 @@ use native.Mathlib.Omega.{arith}
 use borrow.Author.Tests.{lt-ltb, le-ltb, ltb-true, eqb-true, eqb-false, eq-eqb, ne_eqb}
 use borrow.Rule.Slice.PartMut.{mid_of, put_mid, same_len_mid, mid_len, take_put}
 use lib.Dec.{eqb}
-use lib.ListN.{length, take, drop_of_length-le}
+use lib.ListN.{length, take, drop, length-drop, drop_of_length-le}
 use lib.Seq.{slice, length-slice, take-take, take_all, take-length, length-take-le}
+use Rattle.std.proofs.Common.{zero-add}
+use Rattle.std.specs.List.{copy_within}
+use Rattle.std.proofs.lemmas.List.{drop-take}
+use Rattle.std.proofs.lemmas.List.Edits.{take-paste}
 use Rattle.table.specs.Choice.{pick}
 use Rattle.table.specs.Results.{DeterminesLent, Leaves}
 use Rattle.table.proofs.Laws.{by_test, by_order}
 use Rattle.table.proofs.Results.{by_equation_lent}
-use Rattle.casefile.specs.Window.{end_ahead, none_ahead, enough_ahead, ahead_of, ahead_after, is_over}
-use Rattle.casefile.specs.Promises.{MovesToFront, ReadsOn, Slides, GoesOn}
+use Rattle.casefile.specs.Window.{Place, end_ahead, count_ahead, none_ahead, enough_ahead, ahead_after, is_over}
+use Rattle.casefile.specs.Promises.{ReadsOn, Slides, GoesOn}
 use Rattle.casefile.specs.Laws.{AheadKept}
 use Rattle.casefile.specs.declared.Ahead.{Ahead}
-use Rattle.casefile.specs.declared.Place.{Place}
 use Rattle.casefile.specs.declared.Turn.{Turn}
 
 -- a count is the same after nothing was added
@@ -25,6 +28,15 @@ added : (kept more : ℕ) → eqb more 0 ≡ eqb (kept + more) kept
 added kept more =
     by_test (eqb more 0) (λ t. rw t (sym (eq-eqb (kept + more) kept (omega (arith, eqb-true more 0 t)))))
     (λ f. rw f (sym (ne_eqb (kept + more) kept (λ e. eqb-false more 0 f (omega arith)))))
+
+-- a part that was copied to the front stands there
+moved : (window : List ℕ) (from to : ℕ) → from ≤ to → to ≤ length window → take (to - from) (copy_within window from to 0) ≡ slice from to window
+moved window from to h k =
+    let all : from + (to - from) ≡ to = omega arith in
+    let long : to - from ≤ length (drop from window) = omega (arith, length-drop from window) in
+    let front : take (0 + (to - from)) (copy_within window from to 0) ≡ take (to - from) (drop from window) = take-paste window 0 (drop from window) (to - from) (omega arith) long in
+    ap (λ (n : ℕ). take n (copy_within window from to 0)) (sym (zero-add (to - from))) ∙ front
+    ∙ sym (drop-take from (to - from) window) ∙ ap (λ (n : ℕ). drop from (take n window)) all
 
 -- the window after a read behind what it kept
 abbrev filled : (kept : ℕ) (window new : List ℕ) → List ℕ
@@ -51,12 +63,13 @@ module _ (before : List ℕ) (ahead : Ahead) where
 
     -- what is read comes behind what was moved to the front
     pub more_ahead :
-        {kept more : ℕ} {window : List ℕ} (new : List ℕ)
-        → enough_ahead before ahead ≡ false → MovesToFront before ahead.from (end_ahead before ahead) kept window
-        → length new ≡ length (mid_of kept (length window - kept) window) → more ≤ length new
-        → Slides before ahead (record { from = 0; to = kept + more; ended = eqb more 0 }) (filled kept window new)
-    more_ahead {kept} {more} {window} new e m l k =
-        let room : kept ≤ length window = omega (arith, m.long, m.same) in
+        {more : ℕ} {window : List ℕ} (new : List ℕ)
+        → enough_ahead before ahead ≡ false → window ≡ copy_within before ahead.from (end_ahead before ahead) 0 → length window ≡ length before
+        → length new ≡ length (mid_of (count_ahead before ahead) (length window - count_ahead before ahead) window) → more ≤ length new
+        → Slides before ahead (record { from = 0; to = count_ahead before ahead + more; ended = eqb more 0 }) (filled (count_ahead before ahead) window new)
+    more_ahead {more} {window} new e m long l k =
+        let kept = count_ahead before ahead in
+        let room : kept ≤ length window = omega (arith, long) in
         let same : length (filled kept window new) ≡ length window = same_len_mid kept (length window - kept) window new l in
         record {
           ordered = omega arith;
@@ -64,11 +77,11 @@ module _ (before : List ℕ) (ahead : Ahead) where
           does =
               rw (le-ltb _ _ h, e)
               (record {
-                front = rw (← m.long) (take_put kept (length window - kept) window new room ∙ m.front);
-                same = same ∙ m.same;
+                front = take_put kept (length window - kept) window new room ∙ ap (take kept) m ∙ moved before ahead.from (end_ahead before ahead) h (omega arith);
+                same = same ∙ long;
                 start = refl;
-                more = omega (arith, m.long);
-                ended = rw (← m.long) (added kept more);
+                more = omega arith;
+                ended = added kept more;
               });
         }
 
@@ -111,7 +124,7 @@ pub case_determined :
     (before : List ℕ) (turn : Turn) (at : Place) → none_ahead before (ahead_after turn at) || enough_ahead before (ahead_after turn at) ≡ true
     → DeterminesLent (GoesOn before turn at)
 case_determined before turn at h r q after later a b =
-    let same : (ahead_of r ≡ ahead_of q) × (after ≡ later) = slide_determined before (ahead_after turn at) h _ _ after later a.slides b.slides in
+    let same : (r.ahead ≡ q.ahead) × (after ≡ later) = slide_determined before (ahead_after turn at) h _ _ after later a.slides b.slides in
     let left : r.left ≡ q.left = a.counted ∙ ap (λ (x : Ahead). pick (is_over at x) 0 (turn.left - 1)) same.0 ∙ sym b.counted in
     let n : r.n ≡ q.n = cc in
-    (λ i. record { left = left i; from = (same.0 i).from; to = (same.0 i).to; ended = (same.0 i).ended; n = n i }, same.1)
+    (λ i. record { left = left i; ahead = same.0 i; n = n i }, same.1)

@@ -1,14 +1,13 @@
 -- What is promised of the case file's functions beyond the contracts. A heading names the file of proofs/.
-use Rattle.std.specs.Prelude.{ℕ, true, ◌||◌, List, ◌≡◌, length, take}
+use Rattle.std.specs.Prelude.{ℕ, Bool, true, ◌||◌, List, ◌≡◌, length, take}
 use Rattle.std.proofs.Math.Seq.{slice}
 use Rattle.table.specs.Results.{Determines, DeterminesLent}
 use Rattle.output.specs.Laws.{DeterminesUnlessLost}
 use Rattle.casefile.specs.Records.{phy_numbers, phy_of}
-use Rattle.casefile.specs.Window.{none_ahead, enough_ahead, ahead_after}
+use Rattle.casefile.specs.Window.{Place, none_ahead, enough_ahead, ahead_after}
 use Rattle.casefile.specs.Promises.{TakesNumber, TakesBytes, TakesNumbers, MakesPhy, GivesNumbers, MakesEvent}
 use Rattle.casefile.specs.Promises.{PutsPiece, PutsPieces, PutsRepeats, Slides, GoesOn}
 use Rattle.casefile.specs.declared.Ahead.{Ahead}
-use Rattle.casefile.specs.declared.Place.{Place}
 use Rattle.casefile.specs.declared.Turn.{Turn}
 use Rattle.phy.specs.declared.Phy.{Phy}
 
@@ -19,13 +18,16 @@ use Rattle.phy.specs.declared.Phy.{Phy}
 pub record Determined : Type 0 where
   pub take : (s : List ℕ) (place : ℕ) → Determines (TakesNumber s place)
   pub take_bytes : (s : List ℕ) (place : ℕ) → Determines (TakesBytes s place)
-  pub take_many : (s : List ℕ) (place : ℕ) (before : List ℕ) → DeterminesLent (TakesNumbers s place before)
+  pub take_many : (before s : List ℕ) (place : ℕ) → Determines (TakesNumbers before s place)
   pub phy_of : (f : List ℕ) → Determines (MakesPhy f)
   pub phy_numbers : (p : Phy) → Determines (GivesNumbers p)
   pub event_of : (f : List ℕ) → Determines (MakesEvent f)
   pub put_piece :
-      (piece : List ℕ) (times : ℕ) (before : List ℕ) (n : ℕ) → DeterminesLent (PutsPiece piece times before n)
-  pub put_pieces : (s : List ℕ) (place : ℕ) (before : List ℕ) → DeterminesLent (PutsPieces s place before)
+      (piece : List ℕ) (times : ℕ) (before : List ℕ) (n : ℕ)
+      → DeterminesLent (λ (r : Bool × ℕ) after. PutsPiece piece times r.0 before n r.1 after)
+  pub put_pieces :
+      (s : List ℕ) (place : ℕ) (before : List ℕ) (n : ℕ)
+      → DeterminesLent (λ (r : ℕ × Bool × ℕ) after. PutsPieces s place r.0 r.1 before n r.2 after)
   pub put_repeats :
       (kind : ℕ) (bytes before : List ℕ) (n : ℕ) → DeterminesUnlessLost (PutsRepeats kind bytes before n)
   pub next_case :

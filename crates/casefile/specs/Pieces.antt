@@ -1,8 +1,7 @@
 -- Buffers of pieces, each a byte string that stands there a number of times; and a buffer in few numbers.
 use Rattle.std.specs.Prelude.{ℕ, zero, suc, ◌+◌, ◌-◌, Bool, true, not, List, [], ◌∷◌, ◌++◌, eqb, take, drop}
 use Rattle.table.specs.Choice.{pick}
-use Rattle.casefile.specs.Reading.{taken, part_at}
-use Rattle.casefile.specs.declared.Part.{Part}
+use Rattle.casefile.specs.Reading.{Part, taken, part_at}
 
 -- a byte string so many times
 unfoldable pub repeated : (times : ℕ) → List ℕ → List ℕ

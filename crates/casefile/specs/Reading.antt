@@ -2,16 +2,20 @@
 use Rattle.std.specs.Prelude.{ℕ, zero, suc, List, [], ◌∷◌, length}
 use Rattle.number.specs.Reading.{Told, value, refused, read_number}
 use Rattle.output.specs.Writing.{reached}
-use Rattle.casefile.specs.declared.Taken.{Taken}
-use Rattle.casefile.specs.declared.Part.{Part}
+use Rattle.number.specs.declared.Found.{Found}
+
+-- a part of a case file
+pub record Part : Type 0 where
+  pub from : ℕ
+  pub to : ℕ
 
 -- a number with the place after it; a fault is 0, and then comes the end of the file
-abbrev pub taken_of : (end : ℕ) → Told → Taken
+abbrev pub taken_of : (end : ℕ) → Told → Found ℕ
 taken_of end (value v next) = record { value = v; next = next }
 taken_of end (refused n) = record { value = 0; next = end }
 
 -- the number at a place
-unfoldable pub taken : List ℕ → ℕ → Taken
+unfoldable pub taken : List ℕ → ℕ → Found ℕ
 taken s place = taken_of (length s) (read_number s place)
 
 -- the byte string at a place: after its length that many bytes, as far as the file has them

@@ -2,8 +2,12 @@
 use Rattle.std.specs.Prelude.{ℕ, ◌-◌, min, Bool, ◌||◌, List, ltb, leb, eqb, length}
 use Rattle.output.specs.Writing.{lost}
 use Rattle.casefile.specs.declared.Ahead.{Ahead}
-use Rattle.casefile.specs.declared.Place.{Place}
 use Rattle.casefile.specs.declared.Turn.{Turn}
+
+-- where the case file is read next, and how much output is gathered
+pub record Place : Type 0 where
+  pub next : ℕ
+  pub n : ℕ
 
 -- a case takes no more than this of the case file
 abbrev pub most_case : ℕ
@@ -25,13 +29,9 @@ none_ahead window ahead = ltb (end_ahead window ahead) ahead.from
 abbrev pub enough_ahead : (window : List ℕ) → Ahead → Bool
 enough_ahead window ahead = ahead.ended || leb most_case (count_ahead window ahead)
 
--- what is ahead in a turn
-abbrev pub ahead_of : Turn → Ahead
-ahead_of turn = record { from = turn.from; to = turn.to; ended = turn.ended }
-
 -- what is ahead after a turn that took a case up to a place: no more of the file once a write has failed
 abbrev pub ahead_after : Turn → Place → Ahead
-ahead_after turn at = record { from = at.next; to = turn.to; ended = turn.ended || eqb at.n lost }
+ahead_after turn at = record { from = at.next; to = turn.ahead.to; ended = turn.ahead.ended || eqb at.n lost }
 
 -- the run is over: a write failed, or nothing more is ahead
 abbrev pub is_over : Place → Ahead → Bool

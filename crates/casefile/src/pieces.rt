@@ -1,55 +1,35 @@
-// Buffers of pieces, each a byte string that stands there a number of times.
+// Texts of pieces, each a byte string that stands there a number of times.
+ghost use Rattle.std.specs.Prelude.{◌≡◌};
+ghost use Rattle.output.specs.Promises.{Extends};
 ghost use Rattle.casefile.specs.Promises.{PutsPiece, PutsPieces};
 
-use crate::input::{take, take_bytes};
-use crate::{Filled, Made};
-use output::put_all;
+use crate::Input;
+use output::Text;
 
-// A piece so many times, from n on.
-pub fn put_piece(piece: &[u8], times: u64, buffer: &mut [u8], n: usize) -> Filled
-    ensures { PutsPiece piece.now times buffer.old n result buffer.new }
+// A piece so many times; it says whether there was room for all.
+pub fn put_piece(piece: &[u8], times: u64, text: &mut Text) -> bool
+    ensures { Extends (PutsPiece piece.now times result) text.old text.new }
 {
-    let mut left = times;
-    let mut end = n;
-    while 0 < left {
-        left -= 1;
-        let from = end;
-        end = put_all(buffer, from, piece);
-        if end - from < piece.len() {
-            return Filled {
-                length: end,
-                whole: false,
-            };
+    for _ in 0..times {
+        let from = text.n;
+        text.put_all(piece);
+        if text.n - from < piece.len() {
+            return false;
         }
     }
-    Filled {
-        length: end,
-        whole: true,
-    }
+    true
 }
 
-// count, pieces: end to end in a buffer, as far as it has room
-pub fn put_pieces(s: &[u8], place: usize, buffer: &mut [u8]) -> Made
-    ensures { PutsPieces s.now place buffer.old result buffer.new }
+// count, pieces: end to end, as far as there is room; it says whether there was room for all
+pub fn put_pieces(input: &mut Input, text: &mut Text) -> bool
+    ensures pieces { Extends (PutsPieces input.old.s.now input.old.place input.new.place result) text.old text.new }
+    ensures same_file { input.new.s ≡ input.old.s }
 {
-    let count = take(s, place);
-    let mut left = count.value;
-    let mut next = count.next;
-    let mut end = 0;
     let mut whole = true;
-    while 0 < left {
-        left -= 1;
-        let times = take(s, next);
-        let part = take_bytes(s, times.next);
-        let from = part.from;
-        next = part.to;
-        let filled = put_piece(&s[from..next], times.value, buffer, end);
-        end = filled.length;
-        whole = whole & filled.whole;
+    for _ in 0..input.take() {
+        let times = input.take();
+        let piece = input.take_bytes();
+        whole &= put_piece(piece, times, text);
     }
-    Made {
-        next,
-        length: end,
-        whole,
-    }
+    whole
 }

@@ -1,4 +1,5 @@
-// The records that a case file holds as numbers, in the order of their fields.
+// The records that a case file holds as numbers, in the order of their fields. No `From` takes the place of a
+// function here: the trait, the arrays and the records are all of other crates.
 ghost use Rattle.casefile.specs.Promises.{MakesPhy, GivesNumbers, MakesEvent};
 
 use crate::{EVENT_NUMBERS, PHY_NUMBERS};

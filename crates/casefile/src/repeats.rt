@@ -1,43 +1,30 @@
 // A buffer in few numbers: how many equal bytes stand together, and which.
 ghost use Rattle.std.specs.Prelude.{◌≡◌, drop};
+ghost use Rattle.output.specs.Promises.{Extends};
 ghost use Rattle.casefile.specs.Pieces.{ends_run};
 ghost use Rattle.casefile.specs.Promises.{PutsRepeats};
 
-use output::{end_line, put_more, put_numbers};
+use output::Text;
 
 // Whether the bytes have no further b at i.
 fn ends_at(bytes: &[u8], i: usize, b: u8) -> bool
     ensures { result ≡ ends_run b (drop i bytes.now) }
 {
-    if bytes.len() <= i {
-        return true;
-    }
-    bytes[i] != b
+    bytes.get(i).is_none_or(|next| *next != b)
 }
 
 // A line of the pairs, none for an empty buffer.
-pub fn put_repeats(
-    rt: &(impl Print + Eprint),
-    out: &mut [u8],
-    n: usize,
-    kind: u64,
-    bytes: &[u8],
-) -> usize
-    ensures { PutsRepeats kind bytes.now out.old n result out.new }
+pub fn put_repeats(rt: &(impl Print + Eprint), text: &mut Text, kind: u64, bytes: &[u8])
+    ensures { Extends (PutsRepeats kind bytes.now) text.old text.new }
 {
-    let none: [u64; 0] = [];
-    let mut end = put_numbers(out, n, kind, &none);
-    let mut count: usize = 0;
-    let mut i = 0;
-    while i < bytes.len() {
-        let b = bytes[i];
+    text.put_numbers(kind, &[]);
+    let mut count: u64 = 0;
+    for (i, b) in bytes.iter().enumerate() {
         count += 1;
-        i += 1;
-        if ends_at(bytes, i, b) {
-            let pair = [count as u64, b as u64];
-            end = put_more(out, end, &pair);
+        if ends_at(bytes, i + 1, *b) {
+            text.put_more(&[count, u64::from(*b)]);
             count = 0;
         }
     }
-    end_line(rt, out, end)
+    text.end_line(rt);
 }

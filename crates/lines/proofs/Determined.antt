@@ -2,33 +2,33 @@
 use Prim.Native.Nat.{ℕ}
 use mathlib.Core.Bool.{true, false}
 use mathlib.Core.List.{List}
-use mathlib.Core.Path.{◌≡◌, refl, sym, ◌∙◌}
+use mathlib.Core.Path.{◌≡◌, refl, sym, ap, ◌∙◌}
 use lib.Dec.{leb}
 use lib.ListN.{length}
+use Rattle.std.specs.Prelude.{Ok, Err}
 use Rattle.table.proofs.Laws.{by_test}
 use Rattle.table.specs.Results.{TellsOnce, DeterminesLent}
-use Rattle.table.proofs.Results.{leads_back, by_equation, by_result_lent}
+use Rattle.table.proofs.Results.{leads_back, refusal_of, refusal_back, by_equation, by_result_lent}
 use Rattle.output.specs.Writing.{line}
 use Rattle.lines.specs.Lines.{most_columns, end_line, stop_line, too_long_line}
 use Rattle.lines.specs.Listing.{Next}
-use Rattle.lines.specs.Promises.{ToldWritten, wrote, finished, refused, tells_written, PutsShort, PutsColumns}
+use Rattle.lines.specs.Promises.{Answer, ToldWritten, wrote, finished, refused, tells_written, PutsShort, PutsColumns}
 use Rattle.lines.specs.Laws.{Determined, NextDetermined}
 use Rattle.lines.specs.declared.Progress.{Progress}
 use Rattle.lines.specs.declared.Progress.TheVariants.{Done as ProgressDone}
-use Rattle.lines.specs.declared.LineWritten.{LineWritten}
-use Rattle.lines.specs.declared.LineWritten.TheVariants.{Line, Done, NoRoom}
+use Rattle.lines.specs.declared.Written.TheVariants.{Line, Done}
 
 -- what is said tells which result said it
-answer : ToldWritten → LineWritten
-answer (wrote next n) = Line next n
-answer (finished whole) = Done whole
-answer (refused n) = NoRoom
+answer : ToldWritten → Answer
+answer (wrote next n) = Ok (Line next n)
+answer (finished whole) = Ok (Done whole)
+answer (refused n) = Err (refusal_of n)
 
-answers : (r : LineWritten) → answer (tells_written r) ≡ r
+answers : (r : Answer) → answer (tells_written r) ≡ r
 unfolding answer
-answers (Line next n) = refl
-answers (Done whole) = refl
-answers NoRoom = refl
+answers (Ok (Line next n)) = refl
+answers (Ok (Done whole)) = refl
+answers (Err refusal) = ap Err (refusal_back refusal)
 
 written_once : TellsOnce tells_written
 written_once = leads_back answer answers

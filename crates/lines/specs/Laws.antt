@@ -5,12 +5,12 @@ use Rattle.table.specs.Results.{TellsOnce, Determines, DeterminesLent}
 use Rattle.lines.specs.Lines.{most_line, end_line}
 use Rattle.lines.specs.Listing.{most_trace, Found, found, nothing, Listable, Lists}
 use Rattle.lines.specs.Listing.{Next, line_of, no_line, start_of, line_at}
-use Rattle.lines.specs.Promises.{StartsListing, wrote, finished, refused, tells_written, PutsLine, PutsShort}
+use Rattle.lines.specs.Promises.{StartsListing, Answer, wrote, finished, refused}
+use Rattle.lines.specs.Promises.{tells_written, PutsLine, PutsShort}
 use Rattle.lines.specs.Promises.{PutsColumns, PutsEnd, PutsStop, PutsTooLong}
 use Rattle.lines.specs.Promises.{bytes_of, write_next, buffer_after, state_after, PutsNext, moved_on}
 use Rattle.lines.specs.declared.Progress.{Progress}
 use Rattle.lines.specs.declared.Progress.TheVariants.{Header, Events, TooLong, Done}
-use Rattle.lines.specs.declared.LineWritten.{LineWritten}
 
 -- ---- results are determined (proofs/Determined)
 
@@ -30,7 +30,7 @@ pub record Determined : Type 0 where
 -- the same of a function that writes what comes next: result, state and buffer
 abbrev pub NextDetermined : {S : Type 0} → Next S → Type 0
 NextDetermined {S} n =
-    (old : S) (before : List ℕ) (at : ℕ) (b c : S) (r q : LineWritten) (after later : List ℕ)
+    (old : S) (before : List ℕ) (at : ℕ) (b c : S) (r q : Answer) (after later : List ℕ)
     → PutsNext n old before at b r after → PutsNext n old before at c q later → (b ≡ c) × (r ≡ q) × (after ≡ later)
 
 -- ---- a refusal exactly when (proofs/Refusals)
@@ -53,13 +53,13 @@ NoRoomKeeps S =
 -- a line after which there is a state leaves that state, or the one before where it has no room
 abbrev pub MovesOn : Type 0 → Type 0
 MovesOn S =
-    (line : List ℕ) (next : Progress) (before : List ℕ) (at : ℕ) (r : LineWritten) (after : List ℕ) (old b : S)
+    (line : List ℕ) (next : Progress) (before : List ℕ) (at : ℕ) (r : Answer) (after : List ℕ) (old b : S)
     → PutsShort line next before at r after → PutsNext (line_of line next b) old before at (moved_on r old b) r after
 
 -- one that moves no state leaves it in any case
 abbrev pub Stays : Type 0 → Type 0
 Stays S =
-    (line : List ℕ) (next : Progress) (before : List ℕ) (at : ℕ) (r : LineWritten) (after : List ℕ) (b : S)
+    (line : List ℕ) (next : Progress) (before : List ℕ) (at : ℕ) (r : Answer) (after : List ℕ) (b : S)
     → PutsShort line next before at r after → PutsNext (line_of line next b) b before at b r after
 
 -- ---- line by line (proofs/Ends)
@@ -94,7 +94,7 @@ pub record Advances {S E : Type 0} (m : Listable S E) (s : List ℕ) (progress n
 
 abbrev pub WrittenAdvances : {S E : Type 0} → Listable S E → Type 0
 WrittenAdvances {S} m =
-    (s : List ℕ) (progress : Progress) (b : S) (before : List ℕ) (at : ℕ) (c : S) (r : LineWritten) (after : List ℕ)
+    (s : List ℕ) (progress : Progress) (b : S) (before : List ℕ) (at : ℕ) (c : S) (r : Answer) (after : List ℕ)
     (next : Progress) (n : ℕ)
     → PutsNext (line_at m s progress b) b before at c r after → tells_written r ≡ wrote next n
     → Advances m s progress next b c before at n
@@ -102,7 +102,7 @@ WrittenAdvances {S} m =
 -- nothing more is written where no line comes, and the outcome is that of the progress
 abbrev pub FinishedComes : {S E : Type 0} → Listable S E → Type 0
 FinishedComes {S} m =
-    (s : List ℕ) (progress : Progress) (b : S) (before : List ℕ) (at : ℕ) (c : S) (r : LineWritten) (after : List ℕ)
+    (s : List ℕ) (progress : Progress) (b : S) (before : List ℕ) (at : ℕ) (c : S) (r : Answer) (after : List ℕ)
     (whole : Bool)
     → PutsNext (line_at m s progress b) b before at c r after → tells_written r ≡ finished whole
     → line_at m s progress b ≡ no_line whole
@@ -114,7 +114,7 @@ pub record Kept {S : Type 0} (b c : S) (before : List ℕ) (at : ℕ) : Type 0 w
 
 abbrev pub RoomEnough : {S E : Type 0} → Listable S E → Type 0
 RoomEnough {S} m =
-    (s : List ℕ) (progress : Progress) (b : S) (before : List ℕ) (at : ℕ) (c : S) (r : LineWritten) (after : List ℕ)
+    (s : List ℕ) (progress : Progress) (b : S) (before : List ℕ) (at : ℕ) (c : S) (r : Answer) (after : List ℕ)
     → PutsNext (line_at m s progress b) b before at c r after → tells_written r ≡ refused no_room → Kept b c before at
 
 -- ---- the whole listing (proofs/Whole)

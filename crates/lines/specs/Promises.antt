@@ -1,16 +1,19 @@
 -- What each function promises, cited by its `ensures` and, of the public ones, by `Determined` in Laws; and what the
 -- function of any listing promises that writes the next line.
-use Rattle.std.specs.Prelude.{ℕ, ◌+◌, ◌≤◌, Bool, true, false, List, [], ◌≡◌, leb, length}
+use Rattle.std.specs.Prelude.{ℕ, ◌+◌, ◌≤◌, Bool, true, false, List, [], ◌≡◌, Result, Ok, Err, leb, length}
 use Rattle.std.proofs.lemmas.List.Edits.{sets}
 use Rattle.table.specs.Choice.{pick}
-use Rattle.table.specs.Refusals.{no_room}
+use Rattle.table.specs.Refusals.{no_room, number_of}
+use Rattle.table.specs.declared.Refusal.{Refusal}
+use Rattle.table.specs.declared.Refusal.TheVariants.{NoRoom}
 use Rattle.output.specs.Writing.{line}
+use Rattle.output.specs.declared.Text.{Text}
 use Rattle.lines.specs.Lines.{most_line, most_columns, end_line, stop_line, too_long_line}
 use Rattle.lines.specs.Listing.{Next, line_of, no_line, start_of}
 use Rattle.lines.specs.declared.Progress.{Progress}
 use Rattle.lines.specs.declared.Progress.TheVariants.{Done as ProgressDone}
-use Rattle.lines.specs.declared.LineWritten.{LineWritten}
-use Rattle.lines.specs.declared.LineWritten.TheVariants.{Line, Done, NoRoom}
+use Rattle.lines.specs.declared.Written.{Written}
+use Rattle.lines.specs.declared.Written.TheVariants.{Line, Done}
 
 -- `start` of a trace of a length
 abbrev pub StartsListing : ℕ → Progress → Type 0
@@ -22,11 +25,30 @@ pub data ToldWritten : Type 0 where
   finished : (whole : Bool) → ToldWritten
   refused : ℕ → ToldWritten
 
--- what each result says, as the paper numbers it
-abbrev pub tells_written : LineWritten → ToldWritten
-tells_written (Line next n) = wrote next n
-tells_written (Done whole) = finished whole
-tells_written NoRoom = refused no_room
+-- what asking for a line gives
+abbrev pub Answer : Type 0
+Answer = Result Written Refusal
+
+-- what each answer says, as the paper numbers it
+abbrev pub tells_written : Answer → ToldWritten
+tells_written (Ok (Line next n)) = wrote next n
+tells_written (Ok (Done whole)) = finished whole
+tells_written (Err refusal) = refused (number_of refusal)
+
+-- how many bytes were written
+abbrev pub length_written : Answer → ℕ
+length_written (Ok (Line next n)) = n
+length_written (Ok (Done whole)) = 0
+length_written (Err refusal) = 0
+
+-- a text goes on as a contract says of the bytes before, their place, the result and the bytes after: behind what was
+-- written, in the same buffer
+pub record Goes (Contract : (before : List ℕ) (at : ℕ) (r : Answer) (after : List ℕ) → Type 0)
+    (old new : Text) (r : Answer) : Type 0
+  where
+    pub puts : Contract old.out.now old.n r new.out.now
+    pub there : new.n ≡ old.n + length_written r
+    pub same_buffer : new.out.ghost_name ≡ old.out.ghost_name
 
 -- ---- one line
 
@@ -43,14 +65,14 @@ abbrev pub with_line : List ℕ → List ℕ → ℕ → List ℕ
 with_line bytes buffer at = pick (fits bytes buffer at) (sets buffer at bytes) buffer
 
 -- `put_line` of bytes into the buffer `before` at a place, which leaves it as `after`
-pub record PutsLine (line : List ℕ) (next : Progress) (before : List ℕ) (at : ℕ) (r : LineWritten) (after : List ℕ) :
+pub record PutsLine (line : List ℕ) (next : Progress) (before : List ℕ) (at : ℕ) (r : Answer) (after : List ℕ) :
     Type 0
   where
     pub says : tells_written r ≡ write_line line next before at
     pub bytes : after ≡ with_line line before at
 
 -- the same of a line that is no longer than the longest
-pub record PutsShort (line : List ℕ) (next : Progress) (before : List ℕ) (at : ℕ) (r : LineWritten) (after : List ℕ) :
+pub record PutsShort (line : List ℕ) (next : Progress) (before : List ℕ) (at : ℕ) (r : Answer) (after : List ℕ) :
     Type 0
   where
     pub puts : PutsLine line next before at r after
@@ -58,25 +80,25 @@ pub record PutsShort (line : List ℕ) (next : Progress) (before : List ℕ) (at
 
 -- `put_columns`, of a place and the numbers behind it; more than a line has are refused, and nothing changes
 abbrev pub PutsColumns :
-    (place : ℕ) → (columns : List ℕ) → (next : Progress) → List ℕ → ℕ → LineWritten → List ℕ → Type 0
+    (place : ℕ) → (columns : List ℕ) → (next : Progress) → List ℕ → ℕ → Answer → List ℕ → Type 0
 PutsColumns place columns next before at r after =
     pick (leb (length columns) most_columns) (PutsShort (line place columns) next before at r after)
-    ((r ≡ NoRoom) × (after ≡ before))
+    ((r ≡ Err NoRoom) × (after ≡ before))
 
 -- and of a last one, after which nothing comes
-abbrev pub PutsLast : (line : List ℕ) → (whole : Bool) → List ℕ → ℕ → LineWritten → List ℕ → Type 0
+abbrev pub PutsLast : (line : List ℕ) → (whole : Bool) → List ℕ → ℕ → Answer → List ℕ → Type 0
 PutsLast line whole before at r after = PutsShort line (ProgressDone whole) before at r after
 
 -- `put_end`
-abbrev pub PutsEnd : (place count : ℕ) → List ℕ → ℕ → LineWritten → List ℕ → Type 0
+abbrev pub PutsEnd : (place count : ℕ) → List ℕ → ℕ → Answer → List ℕ → Type 0
 PutsEnd place count before at r after = PutsLast (end_line place count) true before at r after
 
 -- `put_stop`
-abbrev pub PutsStop : (place refusal : ℕ) → List ℕ → ℕ → LineWritten → List ℕ → Type 0
+abbrev pub PutsStop : (place refusal : ℕ) → List ℕ → ℕ → Answer → List ℕ → Type 0
 PutsStop place refusal before at r after = PutsLast (stop_line place refusal) false before at r after
 
 -- `put_too_long`
-abbrev pub PutsTooLong : List ℕ → ℕ → LineWritten → List ℕ → Type 0
+abbrev pub PutsTooLong : List ℕ → ℕ → Answer → List ℕ → Type 0
 PutsTooLong before at r after = PutsLast too_long_line false before at r after
 
 -- ---- what comes next
@@ -102,7 +124,7 @@ state_after (line_of bytes next b) old buffer at = pick (fits bytes buffer at) b
 state_after (no_line whole) old buffer at = old
 
 -- writing what comes next of a state into the buffer `before` at a place, which leaves both as `b` and `after`
-pub record PutsNext {S : Type 0} (n : Next S) (old : S) (before : List ℕ) (at : ℕ) (b : S) (r : LineWritten)
+pub record PutsNext {S : Type 0} (n : Next S) (old : S) (before : List ℕ) (at : ℕ) (b : S) (r : Answer)
     (after : List ℕ) : Type 0
   where
     pub says : tells_written r ≡ write_next n before at
@@ -111,7 +133,7 @@ pub record PutsNext {S : Type 0} (n : Next S) (old : S) (before : List ℕ) (at 
     pub short : length (bytes_of n) ≤ most_line
 
 -- the state once a line that comes was asked for, with the one before and the one after it: nothing written leaves it
-abbrev pub moved_on : {S : Type 0} → LineWritten → (old b : S) → S
-moved_on (Line next n) old b = b
-moved_on (Done whole) old b = old
-moved_on NoRoom old b = old
+abbrev pub moved_on : {S : Type 0} → Answer → (old b : S) → S
+moved_on (Ok (Line next n)) old b = b
+moved_on (Ok (Done whole)) old b = old
+moved_on (Err refusal) old b = old

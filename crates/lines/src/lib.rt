@@ -4,10 +4,11 @@
 
 ghost use Rattle.std.specs.Prelude.{◌+◌, ◌≤◌, length};
 ghost use Rattle.lines.specs.Lines.{most_line, last_line};
-ghost use Rattle.lines.specs.Promises.{StartsListing, PutsLine, PutsColumns, PutsLast};
+ghost use Rattle.lines.specs.Promises.{StartsListing, Goes, PutsLine, PutsColumns, PutsLast};
 ghost use Rattle.lines.specs.Promises.{PutsEnd, PutsStop, PutsTooLong};
 
-use output::{put_all, put_more, put_numbers};
+use output::Text;
+use table::Refusal;
 
 // A longer trace is not listed.
 pub const MOST_TRACE: usize = 65536;
@@ -20,7 +21,7 @@ const MOST_COLUMNS: usize = 10;
 
 // What the next line is of: the header, what stands at a place of the trace, a trace that is too long,
 // or nothing more, the trace having been listed to its end or not.
-#[derive(Clone, Copy)]
+#[derive(Clone, Copy, Debug, PartialEq, Eq)]
 pub enum Progress {
     Header,
     Events { place: usize, count: u64 },
@@ -28,12 +29,11 @@ pub enum Progress {
     Done { whole: bool },
 }
 
-// What writing a line did: the progress after it and how many bytes it wrote, or why it wrote none.
-#[derive(Clone, Copy)]
-pub enum LineWritten {
+// What asking for a line did: the progress after the line and how many bytes it has, or that no line is left.
+#[derive(Clone, Copy, Debug, PartialEq, Eq)]
+pub enum Written {
     Line { next: Progress, length: usize },
     Done { whole: bool },
-    NoRoom,
 }
 
 // The progress before the first line of a trace of a length.
@@ -47,19 +47,17 @@ pub fn start(length: usize) -> Progress
     }
 }
 
-// A line at a place of a buffer, if all of it fits.
-pub fn put_line(line: &[u8], next: Progress, out: &mut [u8], at: usize) -> LineWritten
-    ensures { PutsLine line.now next out.old at result out.new }
+// A further line of a text, if all of it fits.
+pub fn put_line(line: &[u8], next: Progress, text: &mut Text) -> Result<Written, Refusal>
+    ensures { Goes (PutsLine line.now next) text.old text.new result }
 {
     let length = line.len();
-    if out.len() < at {
-        return LineWritten::NoRoom;
+    let room = text.out.len().checked_sub(text.n).ok_or(Refusal::NoRoom)?;
+    if room < length {
+        return Err(Refusal::NoRoom);
     }
-    if out.len() - at < length {
-        return LineWritten::NoRoom;
-    }
-    put_all(out, at, line);
-    LineWritten::Line { next, length }
+    text.put_all(line);
+    Ok(Written::Line { next, length })
 }
 
 // The line of an event: its place, and the numbers behind it. It is made in an array of its own, so that its
@@ -68,18 +66,18 @@ pub fn put_columns(
     place: usize,
     columns: &[u64],
     next: Progress,
-    out: &mut [u8],
-    at: usize,
-) -> LineWritten
-    ensures { PutsColumns place columns.now next out.old at result out.new }
+    text: &mut Text,
+) -> Result<Written, Refusal>
+    ensures { Goes (PutsColumns place columns.now next) text.old text.new result }
 {
     if MOST_COLUMNS < columns.len() {
-        return LineWritten::NoRoom;
+        return Err(Refusal::NoRoom);
     }
     let mut line = [0u8; MOST_LINE];
-    let end = put_numbers(&mut line, 0, place as u64, columns);
-    let length = put_all(&mut line, end, b"\n");
-    put_line(&line[..length], next, out, at)
+    let mut made = Text::new(&mut line);
+    made.put_numbers(place as u64, columns);
+    made.put_all(b"\n");
+    put_line(made.bytes(), next, text)
 }
 
 // The last line: a place and a number, each behind its word. Both numbers and the newline take 43 bytes
@@ -90,38 +88,38 @@ fn put_last(
     other: &[u8],
     value: u64,
     whole: bool,
-    out: &mut [u8],
-    at: usize,
-) -> LineWritten
+    text: &mut Text,
+) -> Result<Written, Refusal>
     requires { length word.now + length other.now + 43 ≤ most_line }
-    ensures { PutsLast (last_line word.now place other.now value) whole out.old at result out.new }
+    ensures { Goes (PutsLast (last_line word.now place other.now value) whole) text.old text.new result }
 {
     let mut line = [0u8; MOST_LINE];
-    let first = put_all(&mut line, 0, word);
-    let second = put_more(&mut line, first, &[place as u64]);
-    let third = put_all(&mut line, second, other);
-    let fourth = put_more(&mut line, third, &[value]);
-    let length = put_all(&mut line, fourth, b"\n");
-    put_line(&line[..length], Progress::Done { whole }, out, at)
+    let mut made = Text::new(&mut line);
+    made.put_all(word);
+    made.put_more(&[place as u64]);
+    made.put_all(other);
+    made.put_more(&[value]);
+    made.put_all(b"\n");
+    put_line(made.bytes(), Progress::Done { whole }, text)
 }
 
 // The trace's end, and the number of its events.
-pub fn put_end(place: usize, count: u64, out: &mut [u8], at: usize) -> LineWritten
-    ensures { PutsEnd place count out.old at result out.new }
+pub fn put_end(place: usize, count: u64, text: &mut Text) -> Result<Written, Refusal>
+    ensures { Goes (PutsEnd place count) text.old text.new result }
 {
-    put_last(b"end", place, b" events", count, true, out, at)
+    put_last(b"end", place, b" events", count, true, text)
 }
 
-// A fault of the trace.
-pub fn put_stop(place: usize, refusal: u64, out: &mut [u8], at: usize) -> LineWritten
-    ensures { PutsStop place refusal out.old at result out.new }
+// A fault of the trace. `PutsStop` takes any number of a refusal, also one that no `Refusal` has.
+pub fn put_stop(place: usize, refusal: u64, text: &mut Text) -> Result<Written, Refusal>
+    ensures { Goes (PutsStop place refusal) text.old text.new result }
 {
-    put_last(b"stop", place, b" refusal", refusal, false, out, at)
+    put_last(b"stop", place, b" refusal", refusal, false, text)
 }
 
 // A trace that is too long.
-pub fn put_too_long(out: &mut [u8], at: usize) -> LineWritten
-    ensures { PutsTooLong out.old at result out.new }
+pub fn put_too_long(text: &mut Text) -> Result<Written, Refusal>
+    ensures { Goes PutsTooLong text.old text.new result }
 {
-    put_line(b"too long\n", Progress::Done { whole: false }, out, at)
+    put_line(b"too long\n", Progress::Done { whole: false }, text)
 }

@@ -1,18 +1,18 @@
 -- The definition takes one digit after the other off the end of a number, as the code does, and stops at one that is left;
 -- it may take off more digits than the number has, and it is all the same how many more.
-use Prim.Native.Nat.{ℕ, zero, suc, ◌+◌, ◌-◌, ◌*◌, ◌/◌, ◌%◌, ◌^◌, ◌≤◌, ◌<◌}
+use Prim.Native.Nat.{ℕ, zero, suc, ◌*◌, ◌/◌, ◌%◌, ◌^◌, ◌≤◌, ◌<◌}
 use mathlib.Core.List.{List, [], ◌∷◌, ◌++◌}
-use mathlib.Core.Path.{◌≡◌, refl, sym, ap, subst, ◌∙◌}
+use mathlib.Core.Path.{◌≡◌, refl, sym, ap, ◌∙◌}
 use native.Mathlib.Nat.{le_refl, pow-succ'}
 use native.Mathlib.Omega.{arith}
 use borrow.Author.Tests.{lt-ltb, le-ltb}
 use lib.Dec.{ltb}
-use lib.ListN.{length, drop, set, length-append, drop_of_length-le}
-use Rattle.std.proofs.lemmas.List.{drop-set}
-use mathlib.Core.List.{append_assoc, append-nil}
+use lib.ListN.{length, length-append}
+use Rattle.std.specs.Fmt.{decimal as written}
+use Rattle.std.proofs.lemmas.Fmt.{decimal_by_steps}
 use Rattle.table.proofs.Laws.{by_order, by_pick}
 use Rattle.output.specs.Decimal.{digit, digits_of, decimal}
-use Rattle.output.specs.Writing.{more, line}
+use Rattle.output.specs.Writing.{more_of, more, line}
 
 one_digit : (more n : ℕ) → n < 10 → digits_of more n ≡ digit n ∷ []
 unfolding digits_of
@@ -40,30 +40,12 @@ decimal_large (suc k) h =
     rw (le-ltb (suc k) 10 h)
     (ap (λ (ds : List ℕ). ds ++ (digit (suc k % 10) ∷ [])) (same_digits k (suc k / 10) (suc k / 10) (omega arith) (le_refl (suc k / 10))))
 
--- ---- the digits from a place of an array on, before which those of `rest` are to come
-
-pub record Behind (value : ℕ) (digits : List ℕ) (at rest : ℕ) : Type 0 where
-  pub whole : decimal value ≡ decimal rest ++ drop (at + 1) digits
-  pub room : rest < 10 ^ suc at
-
-pub behind_none : (value at : ℕ) (digits : List ℕ) → length digits ≤ at + 1 → value < 10 ^ suc at → Behind value digits at value
-behind_none value at digits h room = record { whole = rw (drop_of_length-le digits h) (sym (append-nil (decimal value))); room = room }
-
-module _ {value at rest : ℕ} {digits : List ℕ} (b : Behind value digits at rest) (within : at < length digits) where
-  pub behind_room : 10 ≤ rest → 0 < at
-  behind_room large = by_order 0 at (λ h. h) (λ h. let none : at ≡ 0 = omega arith in absurd (omega (arith, subst (λ (k : ℕ). rest < 10 ^ suc k) none b.room)))
-
-  pub behind_on : 10 ≤ rest → Behind value (set digits at (digit (rest % 10))) (at - 1) (rest / 10)
-  behind_on large =
-      let some : 0 < at = behind_room large in
-      let back : at - 1 + 1 ≡ at = omega arith in
-      record {
-        whole = rw back (rw (drop-set digits at (digit (rest % 10)) within) (b.whole ∙ rw (decimal_large rest large) (append_assoc (decimal (rest / 10)) (digit (rest % 10) ∷ []) (drop (at + 1) digits))));
-        room = let front : suc (at - 1) ≡ at = omega arith in rw front (omega (arith, b.room, pow-succ' 10 at));
-      }
-
-  pub behind_done : rest < 10 → drop at (set digits at (digit rest)) ≡ decimal value
-  behind_done small = rw (drop-set digits at (digit rest) within, b.whole, decimal_small rest small) refl
+-- what the library writes of a number of 64 bits
+pub decimal_written : (n : ℕ) → n < 2 ^ 64 → written n ≡ decimal n
+decimal_written =
+    decimal_by_steps (λ n ds. ds ≡ decimal n)
+    (λ n small. sym (decimal_small n small))
+    (λ n ds large e. ap (λ (l : List ℕ). l ++ (digit (n % 10) ∷ [])) e ∙ sym (decimal_large n large))
 
 -- ---- how many they are
 
@@ -88,7 +70,7 @@ Small [] = Unit
 Small (v ∷ vs) = (v < 2 ^ 64) × Small vs
 
 pub more_short : (numbers : List ℕ) → Small numbers → length (more numbers) ≤ 21 * length numbers
-unfolding more
+unfolding more_of
 more_short [] h = omega arith
 more_short (v ∷ vs) h = rw length-append (omega (arith, decimal_short v h.0, more_short vs h.1))
 

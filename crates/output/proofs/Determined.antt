@@ -9,7 +9,7 @@ use lib.ListN.{length}
 use Rattle.table.specs.Results.{DeterminesLent}
 use Rattle.table.proofs.Laws.{by_test}
 use Rattle.table.proofs.Results.{by_equation, by_result_lent}
-use Rattle.output.specs.Writing.{newline, more, numbers_text, line, reached, gathered, lost, stays_gathered}
+use Rattle.output.specs.Writing.{newline, more_of, numbers_text, line, reached, gathered, lost, stays_gathered}
 use Rattle.output.specs.Promises.{Puts, WritesOut, PutsLine}
 use Rattle.output.specs.Laws.{SameUnlessLost, DeterminesUnlessLost, Determined}
 
@@ -33,11 +33,12 @@ ends_line bytes before n r q after later a b =
 pub determined : Determined
 determined =
     record {
+      bytes = λ buffer n. by_equation _;
       put_all = λ bytes before n. by_result_lent (λ r q e. e) (λ r after a. record { says = a.puts.there; leaves = a.puts.stored });
-      put_more = λ numbers. puts (more numbers);
-      put_bytes = λ bytes. puts (more bytes);
+      put_more = λ value numbers. puts (more_of value numbers);
       put_numbers = λ first others. puts (numbers_text first others);
       write_out = out;
+      is_lost = λ n. by_equation _;
       end_line = ends_line (newline ∷ []);
       put_line = λ first others. ends_line (line first others);
       fail = by_equation _;

@@ -9,8 +9,9 @@ use lib.ListN.{length, take, drop, get_or, length-append, drop_of_length-le}
 use lib.Seq.{sets, set_out, length-sets, drop-cons}
 use Rattle.table.proofs.Laws.{by_test, by_order}
 use Rattle.table.proofs.Stores.{sets_on, stored_to}
-use Rattle.output.specs.Writing.{further, more, reached, gathered, lost}
-use Rattle.output.specs.Promises.{Puts, PutsAll, WritesOut, PutsLine}
+use Rattle.output.specs.Writing.{further, more_of, reached, gathered, lost}
+use Rattle.output.specs.Promises.{Extends, Puts, PutsAll, WritesOut, PutsLine}
+use Rattle.output.specs.declared.Text.{Text}
 use Rattle.output.specs.Laws.{PutsStayLost, LinesStayLost, OutStaysLost}
 
 sets_out : (buffer xs : List ℕ) (at : ℕ) → length buffer ≤ at → sets buffer at xs ≡ buffer
@@ -52,6 +53,21 @@ puts_line {xs} {ys} {before} {out} {after} {n} {m} {r} p q =
     let both : Puts (xs ++ ys) before n (reached (length out) m (length ys)) after = puts_then p (record { there = refl; stored = q.stored }) in
     record { there = subst (λ (k : ℕ). WritesOut k gathered r) both.there q.there; stored = both.stored }
 
+-- the same of a text that goes on in its buffer
+pub extends_then : {xs ys : List ℕ} {old mid new : Text} → Extends (Puts xs) old mid → Extends (Puts ys) mid new → Extends (Puts (xs ++ ys)) old new
+extends_then p q = record { puts = puts_then p.puts q.puts; same_buffer = q.same_buffer ∙ p.same_buffer }
+
+pub extends_line : {xs ys : List ℕ} {old mid new : Text} → Extends (Puts xs) old mid → Extends (PutsLine ys) mid new → Extends (PutsLine (xs ++ ys)) old new
+extends_line p q = record { puts = puts_line p.puts q.puts; same_buffer = q.same_buffer ∙ p.same_buffer }
+
+pub extends_all : {bytes : List ℕ} {old new : Text} → Extends (PutsAll bytes) old new → Extends (Puts bytes) old new
+extends_all p = record { puts = p.puts.puts; same_buffer = p.same_buffer }
+
+-- a text that began at its buffer's start, with room for all that was put
+pub extends_whole : {bytes : List ℕ} {old new : Text} → Extends (Puts bytes) old new → old.n ≡ 0 → length bytes ≤ length old.out.now → take new.n new.out.now ≡ bytes
+extends_whole {bytes} {old} {new} p start room =
+    puts_whole {n = 0} (subst (λ (n : ℕ). Puts bytes old.out.now n new.n new.out.now) start p.puts) (omega (arith, room))
+
 -- ---- the invariant of a loop that writes: what is left, written from here, makes the whole
 
 pub record Putting (whole before : List ℕ) (n : ℕ) (left out : List ℕ) (end : ℕ) : Type 0 where
@@ -81,14 +97,16 @@ pub bytes_done : {whole before out : List ℕ} {n end : ℕ} (bytes : List ℕ) 
 bytes_done bytes i p h = putting_done p (drop_of_length-le bytes h)
 
 -- further numbers one by one
-pub more_on : {whole before out next : List ℕ} {n end m : ℕ} (numbers : List ℕ) (i : ℕ) → Putting whole before n (more (drop i numbers)) out end → i < length numbers
-    → Puts (further (get_or numbers i 0)) out end m next → Putting whole before n (more (drop (i + 1) numbers)) next m
-unfolding more
-more_on numbers i p h q = putting_on p (ap more (drop-cons numbers i 0 h) ∙ rw add-one refl) q
+pub more_on : {T : Type 0} (value : T → ℕ) {whole before out next : List ℕ} {n end m v : ℕ} (numbers : List T) (i : ℕ) (d : T)
+    → Putting whole before n (more_of value (drop i numbers)) out end → i < length numbers
+    → v ≡ value (get_or numbers i d) → Puts (further v) out end m next → Putting whole before n (more_of value (drop (i + 1) numbers)) next m
+unfolding more_of
+more_on value {out = out} {next} {end = end} {m} numbers i d p h e q =
+    putting_on p (ap (more_of value) (drop-cons numbers i d h) ∙ rw add-one refl) (subst (λ (k : ℕ). Puts (further k) out end m next) e q)
 
-pub more_done : {whole before out : List ℕ} {n end : ℕ} (numbers : List ℕ) (i : ℕ) → Putting whole before n (more (drop i numbers)) out end → length numbers ≤ i → Puts whole before n end out
-unfolding more
-more_done numbers i p h = putting_done p (ap more (drop_of_length-le numbers h))
+pub more_done : {T : Type 0} (value : T → ℕ) {whole before out : List ℕ} {n end : ℕ} (numbers : List T) (i : ℕ) → Putting whole before n (more_of value (drop i numbers)) out end → length numbers ≤ i → Puts whole before n end out
+unfolding more_of
+more_done value numbers i p h = putting_done p (ap (more_of value) (drop_of_length-le numbers h))
 
 -- whoever starts in the buffer ends in it
 pub puts_within : {bytes before after : List ℕ} {n r : ℕ} → Puts bytes before n r after → PutsAll bytes before n r after

@@ -2,7 +2,7 @@
 use Rattle.std.specs.Prelude.{ℕ, ◌≤◌, List, ◌⊎◌, ◌≡◌, length}
 use Rattle.table.specs.Results.{Determines, DeterminesLent}
 use Rattle.output.specs.Writing.{lost}
-use Rattle.output.specs.Promises.{Puts, PutsAll, PutsMore, PutsNumbers, WritesOut, PutsLine, EndsLine}
+use Rattle.output.specs.Promises.{ShowsBytes, Puts, PutsAll, PutsMore, PutsNumbers, WritesOut, TellsLost, PutsLine, EndsLine}
 use Rattle.output.specs.Promises.{PutsNumbersLine, Loses, ReadsInto}
 
 -- ---- results are determined (proofs/Determined)
@@ -18,12 +18,15 @@ DeterminesUnlessLost Contract =
 
 -- two results that a function may give coincide, and so do the buffers that it may leave; of `read_full` where there is
 -- no room, since nothing is read
-pub record Determined : Type 0 where
+pub record Determined : Type 1 where
+  pub bytes : (buffer : List ℕ) (n : ℕ) → Determines (ShowsBytes buffer n)
   pub put_all : (bytes before : List ℕ) (n : ℕ) → DeterminesLent (PutsAll bytes before n)
-  pub put_more : (numbers before : List ℕ) (n : ℕ) → DeterminesLent (PutsMore numbers before n)
-  pub put_bytes : (bytes before : List ℕ) (n : ℕ) → DeterminesLent (PutsMore bytes before n)
+  pub put_more :
+      {T : Type 0} (value : T → ℕ) (numbers : List T) (before : List ℕ) (n : ℕ)
+      → DeterminesLent (PutsMore value numbers before n)
   pub put_numbers : (first : ℕ) (others before : List ℕ) (n : ℕ) → DeterminesLent (PutsNumbers first others before n)
   pub write_out : (n least r q : ℕ) → WritesOut n least r → WritesOut n least q → SameUnlessLost r q
+  pub is_lost : (n : ℕ) → Determines (TellsLost n)
   pub end_line : (before : List ℕ) (n : ℕ) → DeterminesUnlessLost (EndsLine before n)
   pub put_line :
       (first : ℕ) (others before : List ℕ) (n : ℕ) → DeterminesUnlessLost (PutsNumbersLine first others before n)

@@ -16,10 +16,14 @@ newline = 10
 abbrev pub further : ℕ → List ℕ
 further v = blank ∷ decimal v
 
+-- further numbers of a line, one of each thing that has a value
+unfoldable pub more_of : {T : Type 0} → (value : T → ℕ) → List T → List ℕ
+more_of value [] = []
+more_of value (v ∷ vs) = further (value v) ++ more_of value vs
+
 -- further numbers of a line
-unfoldable pub more : List ℕ → List ℕ
-more [] = []
-more (v ∷ vs) = further v ++ more vs
+abbrev pub more : List ℕ → List ℕ
+more = more_of (λ n. n)
 
 -- the numbers of a line
 abbrev pub numbers_text : (first : ℕ) → (others : List ℕ) → List ℕ

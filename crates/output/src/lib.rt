@@ -1,170 +1,166 @@
-// Lines of text, gathered in a buffer: decimal numbers, one blank between two. Each function writes at
-// n and gives the place where the next one writes; what has no room is left out.
+// Lines of text, gathered in a buffer: decimal numbers, one blank between two. What has no room is left out.
 #![tactic(auto)]
 
-ghost use Rattle.std.specs.Prelude.{min, [], ◌∷◌, ◌≡◌, ◌≤◌, drop, length, MatchResult};
-ghost use Rattle.table.specs.Choice.{pick};
+ghost use Rattle.std.specs.Prelude.{ℕ, [], ◌⊎◌, ◌∷◌, ◌≡◌};
 ghost use Rattle.output.specs.Decimal.{decimal};
 ghost use Rattle.output.specs.Writing.{further, lost};
-ghost use Rattle.output.specs.Promises.{Puts, PutsAll, PutsMore, PutsNumbers, WritesOut, EndsLine, PutsNumbersLine};
+ghost use Rattle.output.specs.Promises.{Extends, ShowsBytes, Puts, PutsAll, PutsMore, PutsNumbers};
+ghost use Rattle.output.specs.Promises.{GoesOut, TellsLost, EndsLine, PutsNumbersLine};
 
 mod system;
 
+use itoa::Buffer;
 use std::io::ErrorKind;
 pub use system::{fail, read_full};
 
 // The output is written once this much is gathered, so that a line always has room.
 pub const GATHERED: usize = 32768;
 
-// The place after a write that failed. No buffer has it, so nothing that comes later has room.
-pub const LOST: usize = 18446744073709551615;
+// The place after a write that failed. No buffer has it, so nothing that comes later has room. It is a number
+// because `PutsStayLost`, `LinesStayLost` and `OutStaysLost` of specs/Laws speak of that place.
+pub(crate) const LOST: usize = usize::MAX;
 
-// No number of 64 bits has more digits.
-const DIGITS: usize = 20;
+// What a line shows as a number. A bound `Into<u64>` gives a relation, and the contract needs the number itself.
+pub trait Number: Copy {
+    ghost value: { Self → ℕ };
 
-fn put(out: &mut [u8], n: usize, b: u8) -> usize
-    ensures { Puts (b ∷ []) out.old n result out.new }
-{
-    if n < out.len() {
-        out[n] = b;
-        return n + 1;
+    fn number(self) -> u64
+        ensures { result ≡ value self };
+}
+
+impl Number for u64 {
+    ghost value = { λ n. n };
+
+    fn number(self) -> u64 {
+        self
     }
-    n
 }
 
-// Bytes as they are.
-pub fn put_all(out: &mut [u8], n: usize, bytes: &[u8]) -> usize
-    ensures { PutsAll bytes.now out.old n result out.new }
-{
-    let mut end = n;
-    let mut i = 0;
-    while i < bytes.len() {
-        end = put(out, end, bytes[i]);
-        i += 1;
+impl Number for u8 {
+    ghost value = { λ n. n };
+
+    fn number(self) -> u64 {
+        u64::from(self)
     }
-    end
 }
 
-// The digits of a number at the end of an array, which has room for any, and where they begin.
-fn digits_from(value: u64, digits: &mut [u8; DIGITS]) -> usize
-    ensures within { result ≤ length digits.new }
-    ensures digits { drop result digits.new ≡ decimal value }
-{
-    let mut at = DIGITS - 1;
-    let mut rest = value;
-    while 10 <= rest {
-        digits[at] = b'0' + (rest % 10) as u8;
-        at -= 1;
-        rest /= 10;
+// The buffer in which a text is gathered, and the place where it goes on.
+#[derive(Drop)]
+pub struct Text<'a> {
+    pub out: &'a mut [u8],
+    pub n: usize,
+}
+
+impl<'a> Text<'a> {
+    // A text that begins at the start of a buffer.
+    pub fn new(out: &'a mut [u8]) -> Text<'a>
+        ensures same_buffer { result.out.ghost_name ≡ out.entry.ghost_name }
+        ensures same_bytes { result.out.now ≡ out.old }
+        ensures start { result.n ≡ 0 }
+    {
+        Text { out, n: 0 }
     }
-    digits[at] = b'0' + rest as u8;
-    at
-}
 
-// The digits of a number.
-fn put_number(out: &mut [u8], n: usize, value: u64) -> usize
-    ensures { Puts (decimal value) out.old n result out.new }
-{
-    let mut digits = [0u8; DIGITS];
-    let from = digits_from(value, &mut digits);
-    put_all(out, n, &digits[from..])
-}
-
-// A further number of a line.
-fn put_next(out: &mut [u8], n: usize, value: u64) -> usize
-    ensures { Puts (further value) out.old n result out.new }
-{
-    let after = put(out, n, b' ');
-    put_number(out, after, value)
-}
-
-// Each as a further number of a line.
-pub fn put_more(out: &mut [u8], n: usize, numbers: &[u64]) -> usize
-    ensures { PutsMore numbers.now out.old n result out.new }
-{
-    let mut end = n;
-    let mut i = 0;
-    while i < numbers.len() {
-        end = put_next(out, end, numbers[i]);
-        i += 1;
+    // What is gathered, as far as the buffer holds it.
+    pub fn bytes(&self) -> &[u8]
+        ensures { ShowsBytes self.now.out.now self.now.n result.now }
+    {
+        &self.out[..self.n.min(self.out.len())]
     }
-    end
-}
 
-// Each byte as a further number of a line.
-pub fn put_bytes(out: &mut [u8], n: usize, bytes: &[u8]) -> usize
-    ensures { PutsMore bytes.now out.old n result out.new }
-{
-    let mut end = n;
-    let mut i = 0;
-    while i < bytes.len() {
-        end = put_next(out, end, bytes[i] as u64);
-        i += 1;
-    }
-    end
-}
-
-// The first number of a line and then the others.
-pub fn put_numbers(out: &mut [u8], n: usize, first: u64, others: &[u64]) -> usize
-    ensures { PutsNumbers first others.now out.old n result out.new }
-{
-    let end = put_number(out, n, first);
-    put_more(out, end, others)
-}
-
-// How much of n bytes the buffer holds.
-fn held(out: &[u8], n: usize) -> usize
-    ensures { result ≡ min n (length out.now) }
-{
-    let room = out.len();
-    if n < room { n } else { room }
-}
-
-// The place after a write. What is lost is told on standard error; whoever closed a pipe needs no telling.
-fn after_write(rt: &impl Eprint, written: std::io::Result<()>) -> usize
-    ensures { MatchResult written (λ _. result ≡ 0) (λ _. result ≡ lost) }
-{
-    match written {
-        Ok(()) => 0,
-        Err(error) => {
-            if error.kind() == ErrorKind::BrokenPipe {
-                return LOST;
-            }
-            fail(rt, "not all was written to standard output", &error)
+    fn put(&mut self, b: u8)
+        ensures { Extends (Puts (b ∷ [])) self.old self.new }
+    {
+        if self.n < self.out.len() {
+            self.out[self.n] = b;
+            self.n += 1;
         }
     }
-}
 
-// What is gathered goes out once it is `least` or more; it gives how much is gathered then, or
-// that it was lost. No contract can say what a call writes, so no branch skips the write.
-pub fn write_out(rt: &(impl Print + Eprint), out: &[u8], n: usize, least: usize) -> usize
-    ensures { WritesOut n least result }
-{
-    if (n < least) | (n == LOST) {
-        return n;
+    // Bytes as they are.
+    pub fn put_all(&mut self, bytes: &[u8])
+        ensures { Extends (PutsAll bytes.now) self.old self.new }
+    {
+        for b in bytes {
+            self.put(*b);
+        }
     }
-    let count = held(out, n);
-    after_write(rt, rt.write_all(&out[..count]))
-}
 
-// The end of a line, after which a full buffer is written.
-pub fn end_line(rt: &(impl Print + Eprint), out: &mut [u8], n: usize) -> usize
-    ensures { EndsLine out.old n result out.new }
-{
-    let after = put(out, n, b'\n');
-    write_out(rt, out, after, GATHERED)
-}
+    // The digits of a number.
+    fn put_number(&mut self, value: u64)
+        ensures { Extends (Puts (decimal value)) self.old self.new }
+    {
+        self.put_all(Buffer::new().format(value).as_bytes());
+    }
 
-// A whole line.
-pub fn put_line(
-    rt: &(impl Print + Eprint),
-    out: &mut [u8],
-    n: usize,
-    first: u64,
-    others: &[u64],
-) -> usize
-    ensures { PutsNumbersLine first others.now out.old n result out.new }
-{
-    let end = put_numbers(out, n, first, others);
-    end_line(rt, out, end)
+    // A further number of a line.
+    fn put_next(&mut self, value: u64)
+        ensures { Extends (Puts (further value)) self.old self.new }
+    {
+        self.put(b' ');
+        self.put_number(value);
+    }
+
+    // Each as a further number of a line.
+    pub fn put_more<T: Number>(&mut self, numbers: &[T])
+        ensures { Extends (PutsMore T.value numbers.now) self.old self.new }
+    {
+        for number in numbers {
+            self.put_next(number.number());
+        }
+    }
+
+    // The first number of a line and then the others.
+    pub fn put_numbers(&mut self, first: u64, others: &[u64])
+        ensures { Extends (PutsNumbers first others.now) self.old self.new }
+    {
+        self.put_number(first);
+        self.put_more(others);
+    }
+
+    // Whether a write has failed.
+    pub fn is_lost(&self) -> bool
+        ensures { TellsLost self.now.n result }
+    {
+        self.n == LOST
+    }
+
+    // Writes what is gathered and gives the place after that. What is lost is told on standard error; whoever
+    // closed a pipe needs no telling.
+    fn place_written(&self, rt: &(impl Print + Eprint)) -> usize
+        ensures { (result ≡ 0) ⊎ (result ≡ lost) }
+    {
+        match rt.write_all(self.bytes()) {
+            Ok(()) => 0,
+            Err(error) if error.kind() == ErrorKind::BrokenPipe => LOST,
+            Err(error) => fail(rt, "not all was written to standard output", &error),
+        }
+    }
+
+    // What is gathered goes out once it is `least` or more. No contract can say what a call writes, so no
+    // branch skips the write.
+    pub fn write_out(&mut self, rt: &(impl Print + Eprint), least: usize)
+        ensures { Extends (GoesOut least) self.old self.new }
+    {
+        if (self.n < least) | self.is_lost() {
+            return;
+        }
+        self.n = self.place_written(rt);
+    }
+
+    // The end of a line, after which a full buffer is written.
+    pub fn end_line(&mut self, rt: &(impl Print + Eprint))
+        ensures { Extends EndsLine self.old self.new }
+    {
+        self.put(b'\n');
+        self.write_out(rt, GATHERED);
+    }
+
+    // A whole line.
+    pub fn put_line(&mut self, rt: &(impl Print + Eprint), first: u64, others: &[u64])
+        ensures { Extends (PutsNumbersLine first others.now) self.old self.new }
+    {
+        self.put_numbers(first, others);
+        self.end_line(rt);
+    }
 }

@@ -1,19 +1,32 @@
--- `casefile::pieces::put_piece` meets its contract and ends: each turn writes one piece of those that are left, and stops at the first that has no room.
-use native.Mathlib.Omega.{arith}
+-- `casefile::pieces::put_piece` meets its contract: each turn writes one piece of those that are left, and stops at the first that has no room.
+use Rattle.std.proofs.Common.{refl, ◌∙◌, ◌-◌, arith}
 use Rattle.casefile.proofs.Filling.{filling_start, filling_on, filling_cut, filling_done}
 use Rattle.casefile.proofs.pieces.put_piece.Goals as goal
 
-pub loop-left-init : goal.loop-left-init
-loop-left-init c = filling_start _ _ _ _
+pub loop-init : goal.loop-init
+loop-init c = record { left = c.args.times; here = omega arith; filling = filling_start _ _ _ _; same_buffer = refl }
 
-pub overflow_sub-end : goal.overflow_sub-end
-overflow_sub-end c = omega (arith, c.put_all-end.ensures.puts.there)
+pub returns-then-text-from : goal.returns-then-text-from
+returns-then-text-from c =
+    let before = c.loop.invariant in
+    let put = c.put_all.ensures in
+    record {
+      puts = filling_cut before.filling (omega (arith, before.here, c.loop-test.true)) put.puts.puts c.if-text-from.true;
+      same_buffer = put.same_buffer ∙ before.same_buffer;
+    }
 
-pub returns-then-end-from : goal.returns-then-end-from
-returns-then-end-from c = filling_cut c.loop-left.invariant c.loop-left-test.true c.put_all-end.ensures.puts c.if-end-from.true
-
-pub loop-left-preserved : goal.loop-left-preserved
-loop-left-preserved c = filling_on c.loop-left.invariant c.loop-left-test.true c.put_all-end.ensures.puts c.if-end-from.false
+pub loop-preserved : goal.loop-preserved
+loop-preserved c =
+    let before = c.loop.invariant in
+    let put = c.put_all.ensures in
+    record {
+      left = before.left - 1;
+      here = omega (arith, before.here, c.loop-test.true);
+      filling = filling_on before.filling (omega (arith, before.here, c.loop-test.true)) put.puts.puts c.if-text-from.false;
+      same_buffer = put.same_buffer ∙ before.same_buffer;
+    }
 
 pub returns : goal.returns
-returns c = filling_done c.loop-left.invariant c.loop-left-test.false
+returns c =
+    let after = c.loop.invariant in
+    record { puts = filling_done after.filling (omega (arith, after.here, c.loop-test.false)); same_buffer = after.same_buffer }
