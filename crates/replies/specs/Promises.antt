@@ -1,6 +1,7 @@
 -- What each public function promises, cited by its `ensures` and by `Determined` in Laws.
-use Rattle.std.specs.Prelude.{ℕ, List, ◌≡◌}
+use Rattle.std.specs.Prelude.{ℕ, List, Result, ◌≡◌}
 use Rattle.table.specs.Results.{Leaves}
+use Rattle.table.specs.declared.Refusal.{Refusal}
 use Rattle.number.specs.Reading.{read_number}
 use Rattle.number.specs.Writing as numbers
 use Rattle.event.specs.declared.Event.{Event}
@@ -34,7 +35,11 @@ abbrev pub WritesEvent : (e : Event) (before : List ℕ) (place : ℕ) → Write
 WritesEvent e before place r after =
     Leaves r (event_written (traces.write_event e before place)) after (traces.buffer_after e before place)
 
--- `stop_reply` of how a run stopped
+-- what was written, in numbers
+abbrev pub TellsWritten : Result ℕ Refusal → WriteReply → Type 0
+TellsWritten written r = r ≡ event_written (traces.tells_written written)
+
+-- how a run stopped, in numbers
 abbrev pub TellsStop : Stop → StopReply → Type 0
 TellsStop stop r = r ≡ stop_reply (runs.tells_stop stop)
 

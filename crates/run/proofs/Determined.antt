@@ -1,31 +1,26 @@
 -- Each way to stop says one thing, so a contract that gives what is said gives the result.
-use mathlib.Core.List.{[], ◌∷◌}
 use mathlib.Core.Path.{◌≡◌, refl, ap}
-use Rattle.table.specs.Choice.{◌⇒◌, rows}
-use Rattle.table.specs.Refusals.{bad_state, bad_event, cut}
+use Rattle.table.specs.declared.Refusal.{Refusal}
 use Rattle.table.specs.Results.{TellsOnce}
-use Rattle.table.proofs.Results.{leads_back, with_lent}
+use Rattle.table.proofs.Results.{leads_back, refusal_of, refusal_back, with_lent}
 use Rattle.run.specs.Running.{Halt, at_end, at_budget, at_fault, refused, Told, tells_stop, tells}
 use Rattle.run.specs.Laws.{Determined}
 use Rattle.run.specs.declared.Stop.{Stop}
-use Rattle.run.specs.declared.Stop.TheVariants.{End, Budget, BadEvent, Cut, TooLarge, BadState, NoRoom}
+use Rattle.run.specs.declared.Stop.TheVariants.{End, Budget, Fault, Refused}
 
 -- what is said tells which way to stop said it
 stop : Halt → Stop
 stop at_end = End
 stop at_budget = Budget
-stop (at_fault n place) = rows n ((bad_event ⇒ BadEvent place) ∷ (cut ⇒ Cut place) ∷ []) (TooLarge place)
-stop (refused n) = rows n ((bad_state ⇒ BadState) ∷ []) NoRoom
+stop (at_fault n place) = Fault (record { refusal = refusal_of n; place = place })
+stop (refused n) = Refused (refusal_of n)
 
 stops : (r : Stop) → stop (tells_stop r) ≡ r
 unfolding stop
 stops End = refl
 stops Budget = refl
-stops (BadEvent place) = refl
-stops (Cut place) = refl
-stops (TooLarge place) = refl
-stops BadState = refl
-stops NoRoom = refl
+stops (Fault fault) = ap (λ (refusal : Refusal). Fault (record { refusal = refusal; place = fault.place })) (refusal_back fault.refusal)
+stops (Refused refusal) = ap Refused (refusal_back refusal)
 
 pub stop_once : TellsOnce tells_stop
 stop_once = leads_back stop stops

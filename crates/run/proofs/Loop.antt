@@ -14,7 +14,8 @@ use Rattle.table.specs.Refusals.{bad_state, no_room}
 use Rattle.event.specs.Names.{time_stamp}
 use Rattle.event.specs.Table.{known_of, stamp_of}
 use Rattle.event.specs.declared.Event.{Event}
-use Rattle.event.proofs.InTrace.{others, stamp}
+use Rattle.event.proofs.InTrace.{others}
+use Rattle.event.proofs.InTrace as in-trace
 use Rattle.trace.specs.Reading as reading
 use Rattle.trace.specs.Reading.{read_event}
 use Rattle.trace.proofs.Accepted.{read_known}
@@ -38,9 +39,11 @@ use Rattle.run.specs.Promises.{Gives, TakesEvents, Runs}
 use Rattle.run.specs.Stages.{Stage, clocked, ReadyOn, Comes, GoesOn}
 use Rattle.run.specs.declared.Ran.{Ran}
 use Rattle.run.specs.declared.Stop.{Stop}
-use Rattle.run.specs.declared.Stop.TheVariants.{End, Budget}
-use Rattle.run.specs.declared.Behind.{Behind}
-use Rattle.run.specs.declared.Behind.TheVariants.{Stamp, Stop as BehindStop}
+use Rattle.run.specs.declared.Stop.TheVariants.{End, Budget, Fault}
+use Rattle.std.specs.Prelude.{Result, Ok, Err}
+use Rattle.table.specs.Refusals.{number_of}
+use Rattle.number.specs.declared.Found.{Found}
+use Rattle.trace.specs.declared.Fault.{Fault as TraceFault}
 use Rattle.run.specs.declared.Gone.{Gone}
 use Rattle.run.proofs.Taking.{taking_ended, taking_spent, taking_event, taking_fault}
 
@@ -166,9 +169,13 @@ module _ {p : Phy} {s : List ℕ} {place count budget : ℕ} {before : List ℕ}
           stage = λ b lent base baseSet w. let v = g.stage b lent base baseSet w in stage_on v h r (steps (clocked state base baseSet) v.valid refl) y;
         }
 
+  -- the budget is spent
+  pub going_spent : budget ≤ n → Going p s place count budget before state at budget buffer
+  going_spent h = subst (λ (m : ℕ). Going p s place count budget before state at m buffer) (omega (arith, g.within)) g
+
   -- ---- what comes behind such events
 
-  goes : {behind : Behind} (r : Gone) → r ≡ record { phy = state; count = n; behind = behind }
+  goes : {behind : Result (Found ℕ) Stop} (r : Gone) → r ≡ record { phy = state; count = n; behind = behind }
       → ((b : Bay) (lent : List ℕ) (base baseSet : ℕ)
       → Stage b s budget lent (clocked state base baseSet) at n buffer
       → Comes b s budget lent (clocked state base baseSet) n buffer behind)
@@ -179,21 +186,21 @@ module _ {p : Phy} {s : List ℕ} {place count budget : ℕ} {before : List ℕ}
 
   -- a stamp is read, with budget left
   pub goes_to_stamp : {e : Event} {next : ℕ} (r : Gone) → n < budget → read_event s at ≡ reading.event e next → e.code ≡ time_stamp
-      → r ≡ record { phy = state; count = n; behind = Stamp e.first next } → GoesOn p s place count budget before r buffer
+      → r ≡ record { phy = state; count = n; behind = Ok (record { value = e.first; next = next }) } → GoesOn p s place count budget before r buffer
   goes_to_stamp {e} {next} r h y t q =
-      let is = (stamp e (eq-eqb e.code time_stamp t) (read_known s at e next y)).nothing_else in
+      let is = (in-trace.stamp e (eq-eqb e.code time_stamp t) (read_known s at e next y)).nothing_else in
       goes r q (λ b lent base baseSet w. record { left = h; place = at; stands = y ∙ ap (λ (x : Event). reading.event x next) is; stage = w })
 
   pub goes_to_budget : (r : Gone) → at < length s → budget ≤ n
-      → r ≡ record { phy = state; count = n; behind = BehindStop Budget } → GoesOn p s place count budget before r buffer
+      → r ≡ record { phy = state; count = n; behind = Err Budget } → GoesOn p s place count budget before r buffer
   goes_to_budget r h y q = goes r q (λ b lent base baseSet w. halted_budget w h y)
 
-  pub goes_to_fault : {k first : ℕ} (stop : Stop) (r : Gone) → n < budget → read_event s at ≡ reading.refused k first → tells_stop stop ≡ at_fault k first
-      → r ≡ record { phy = state; count = n; behind = BehindStop stop } → GoesOn p s place count budget before r buffer
-  goes_to_fault stop r h y t q = goes r q (λ b lent base baseSet w. rw t (halted_fault w h y))
+  pub goes_to_fault : {fault : TraceFault} (r : Gone) → n < budget → read_event s at ≡ reading.refused (number_of fault.refusal) fault.place
+      → r ≡ record { phy = state; count = n; behind = Err (Fault fault) } → GoesOn p s place count budget before r buffer
+  goes_to_fault r h y q = goes r q (λ b lent base baseSet w. halted_fault w h y)
 
   pub goes_to_end : (r : Gone) → length s ≤ at
-      → r ≡ record { phy = state; count = n; behind = BehindStop End } → GoesOn p s place count budget before r buffer
+      → r ≡ record { phy = state; count = n; behind = Err End } → GoesOn p s place count budget before r buffer
   goes_to_end r h q = goes r q (λ b lent base baseSet w. halted_end w h)
 
 -- ---- from stamp to stamp
@@ -205,29 +212,29 @@ module _
   abbrev held : Bay
   held = clocked r.phy state.base state.baseSet
 
-  behind_is : {behind : Behind} → r.behind ≡ behind → Comes b s budget before held r.count now behind
+  behind_is : {behind : Result (Found ℕ) Stop} → r.behind ≡ behind → Comes b s budget before held r.count now behind
   behind_is q = subst (Comes b s budget before held r.count now) q (y.comes b before state.base state.baseSet w)
 
   pub as_long : length now ≡ length before
   as_long = y.same ∙ w.long
 
   -- a stamp comes
-  module _ {counter next : ℕ} (q : r.behind ≡ Stamp counter next) where
+  module _ {stamp : Found ℕ} (q : r.behind ≡ Ok stamp) where
     pub stamp_left : r.count < budget
     stamp_left = (behind_is q).left
 
     pub stamp_room : r.count < length now
     stamp_room = omega (arith, stamp_left, w.room, as_long)
 
-    module _ {m : Stepped} (t : m ≡ step_of held (stamp_of counter)) where
+    module _ {m : Stepped} (t : m ≡ step_of held (stamp_of stamp.value)) where
       pub stamp_small : (m.answer.code < 256) × (m.refusal < 256)
-      stamp_small = rw t ((are_bytes held (stamp_of counter)).answer, (are_bytes held (stamp_of counter)).refusal)
+      stamp_small = rw t ((are_bytes held (stamp_of stamp.value)).answer, (are_bytes held (stamp_of stamp.value)).refusal)
 
-      pub stamp_on : {n : ℕ} → n ≡ byte_of m → Stage b s budget before m.next next (r.count + 1) (set now r.count n)
+      pub stamp_on : {n : ℕ} → n ≡ byte_of m → Stage b s budget before m.next stamp.next (r.count + 1) (set now r.count n)
       stamp_on = let c = behind_is q in stage_on c.stage c.left c.stands (sym t)
 
   -- nothing more comes
-  pub no_more : (x : Ran) {stop : Stop} → r.behind ≡ BehindStop stop → tells x ≡ told r.count held (tells_stop stop) → TakesEvents b s budget before x now
+  pub no_more : (x : Ran) {stop : Stop} → r.behind ≡ Err stop → tells x ≡ told r.count held (tells_stop stop) → TakesEvents b s budget before x now
   no_more x q t = let c = behind_is q in record { says = t ∙ c.says; leaves = c.leaves }
 
 -- ---- the contract: not valid, valid and without room, valid and with room

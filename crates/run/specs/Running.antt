@@ -2,7 +2,7 @@
 use Rattle.std.specs.Prelude.{ℕ, zero, suc, List, [], ◌∷◌, eqb, leb, length}
 use Rattle.std.proofs.lemmas.List.Edits.{sets}
 use Rattle.table.specs.Choice.{pick}
-use Rattle.table.specs.Refusals.{bad_state, bad_event, cut, too_large, no_room}
+use Rattle.table.specs.Refusals.{bad_state, no_room, number_of}
 use Rattle.event.specs.declared.Event.{Event}
 use Rattle.trace.specs.Reading as reading
 use Rattle.trace.specs.Reading.{read_event}
@@ -14,7 +14,7 @@ use Rattle.bay.specs.declared.Bay.{Bay}
 use Rattle.bay.specs.declared.Stepped.{Stepped}
 use Rattle.run.specs.declared.Ran.{Ran}
 use Rattle.run.specs.declared.Stop.{Stop}
-use Rattle.run.specs.declared.Stop.TheVariants.{End, Budget, BadEvent, Cut, TooLarge, BadState, NoRoom}
+use Rattle.run.specs.declared.Stop.TheVariants.{End, Budget, Fault, Refused}
 
 -- how a run stops: at the trace's end, at the budget, at a fault with its number and place, or refused at the start
 pub data Halt : Type 0 where
@@ -98,11 +98,8 @@ buffer_after p s budget buffer =
 abbrev pub tells_stop : Stop → Halt
 tells_stop End = at_end
 tells_stop Budget = at_budget
-tells_stop (BadEvent place) = at_fault bad_event place
-tells_stop (Cut place) = at_fault cut place
-tells_stop (TooLarge place) = at_fault too_large place
-tells_stop BadState = refused bad_state
-tells_stop NoRoom = refused no_room
+tells_stop (Fault fault) = at_fault (number_of fault.refusal) fault.place
+tells_stop (Refused refusal) = refused (number_of refusal)
 
 -- what a result of the code says
 abbrev pub tells : Ran → Told

@@ -1,7 +1,8 @@
 -- How the code goes through a run: from stamp to stamp, the phy alone in between. What a run is stands in Running;
 -- here is what the code's own functions promise each other.
-use Rattle.std.specs.Prelude.{ℕ, ◌+◌, ◌≤◌, ◌<◌, true, List, ◌≡◌, length}
+use Rattle.std.specs.Prelude.{ℕ, ◌+◌, ◌≤◌, ◌<◌, true, List, Result, Ok, Err, ◌≡◌, length}
 use Rattle.std.proofs.lemmas.List.Edits.{sets}
+use Rattle.number.specs.declared.Found.{Found}
 use Rattle.event.specs.Table.{stamp_of}
 use Rattle.trace.specs.Reading as reading
 use Rattle.trace.specs.Reading.{read_event}
@@ -12,8 +13,7 @@ use Rattle.bay.specs.Log.{after}
 use Rattle.bay.specs.declared.Bay.{Bay}
 use Rattle.run.specs.Running.{taking, bytes_of, told, told_of, tells_stop}
 use Rattle.run.specs.Promises.{Gives}
-use Rattle.run.specs.declared.Behind.{Behind}
-use Rattle.run.specs.declared.Behind.TheVariants.{Stamp, Stop as BehindStop}
+use Rattle.run.specs.declared.Stop.{Stop}
 use Rattle.run.specs.declared.Gone.{Gone}
 
 -- the run of a bay b, of which so many events are taken and the bay is this one now: what is left gives the whole
@@ -56,10 +56,11 @@ pub record Stamped
 
 -- what comes behind the events that it took: a stamp, or the end of the run
 abbrev pub Comes :
-    (b : Bay) (s : List ℕ) (budget : ℕ) (before : List ℕ) (state : Bay) (count : ℕ) (after : List ℕ) → Behind → Type 0
-Comes b s budget before state count after (Stamp counter next) =
-    Stamped b s budget before state count after counter next
-Comes b s budget before state count after (BehindStop stop) =
+    (b : Bay) (s : List ℕ) (budget : ℕ) (before : List ℕ) (state : Bay) (count : ℕ) (after : List ℕ)
+    → Result (Found ℕ) Stop → Type 0
+Comes b s budget before state count after (Ok stamp) =
+    Stamped b s budget before state count after stamp.value stamp.next
+Comes b s budget before state count after (Err stop) =
     Gives b s budget before (told count state (tells_stop stop)) after
 
 -- `to_stamp` of a phy at a place, with the buffer `before`, which it leaves as `after`: of whatever run this is a stage

@@ -10,21 +10,19 @@ ghost use Rattle.run.specs.Stages.{ReadyOn, GoesOn};
 
 use bay::Bay;
 use event::TIME_STAMP;
+use number::Found;
 use phy::Phy;
-use table::OFF;
-use trace::EventRead;
+use table::{OFF, Refusal};
+use trace::Fault;
 
 // How a run stopped: at the trace's end, at the budget, at a fault with the place of its event, or
 // refused before the first event.
-#[derive(Clone, Copy)]
+#[derive(Clone, Copy, Debug, PartialEq, Eq)]
 pub enum Stop {
     End,
     Budget,
-    BadEvent(usize),
-    Cut(usize),
-    TooLarge(usize),
-    BadState,
-    NoRoom,
+    Fault(Fault),
+    Refused(Refusal),
 }
 
 // What a run gives back: the state, the number of events taken, and how it stopped.
@@ -35,19 +33,12 @@ pub struct Ran {
     pub stop: Stop,
 }
 
-// What comes behind events that are no stamps: a stamp with the place after it, or nothing more.
-#[derive(Clone, Copy)]
-pub(crate) enum Behind {
-    Stamp { counter: u64, next: usize },
-    Stop(Stop),
-}
-
-// How far such events went.
+// How far events that are no stamps went, and what comes behind them: a stamp's counter, or nothing more.
 #[derive(Clone, Copy)]
 pub(crate) struct Gone {
     pub(crate) phy: Phy,
     pub(crate) count: usize,
-    pub(crate) behind: Behind,
+    pub(crate) behind: Result<Found<u64>, Stop>,
 }
 
 // The byte of an event taken: the refusal, or else the answer, or else 0.
@@ -62,7 +53,7 @@ fn byte_for(refusal: u64, answer: u64) -> u8
     }
 }
 
-fn went(phy: Phy, count: usize, behind: Behind) -> Gone
+fn went(phy: Phy, count: usize, behind: Result<Found<u64>, Stop>) -> Gone
     ensures { result ≡ record { phy = phy; count = count; behind = behind } }
 {
     Gone { phy, count, behind }
@@ -84,35 +75,29 @@ fn to_stamp(
 {
     let mut state = phy;
     let mut at = place;
-    let mut n = count;
-    while n < budget {
+    for n in count..budget {
         match trace::event_at(trace, at) {
-            EventRead::Event { event, next } => {
+            Ok(Some(found)) => {
+                let event = found.value;
+                let next = found.next;
                 if event.code == TIME_STAMP {
-                    let counter = event.first;
-                    return went(state, n, Behind::Stamp { counter, next });
+                    let value = event.first;
+                    return went(state, n, Ok(Found { value, next }));
                 }
                 let r = phy::moved(state, event);
                 buffer[n] = byte_for(r.refusal, r.answer);
                 state = r.next;
                 at = next;
-                n += 1;
             }
-            EventRead::End => return went(state, n, Behind::Stop(Stop::End)),
-            EventRead::BadEvent(first) => {
-                return went(state, n, Behind::Stop(Stop::BadEvent(first)));
-            }
-            EventRead::Cut(first) => return went(state, n, Behind::Stop(Stop::Cut(first))),
-            EventRead::TooLarge(first) => {
-                return went(state, n, Behind::Stop(Stop::TooLarge(first)));
-            }
+            Ok(None) => return went(state, n, Err(Stop::End)),
+            Err(fault) => return went(state, n, Err(Stop::Fault(fault))),
         }
     }
     // The end comes before the budget: a trace that ends with its last event taken has ended.
     if at < trace.len() {
-        return went(state, n, Behind::Stop(Stop::Budget));
+        return went(state, budget, Err(Stop::Budget));
     }
-    went(state, n, Behind::Stop(Stop::End))
+    went(state, budget, Err(Stop::End))
 }
 
 fn stopped(next: Bay, count: usize, stop: Stop) -> Ran
@@ -142,21 +127,16 @@ fn take_events(bay: Bay, trace: &[u8], budget: usize, buffer: &mut [u8]) -> Ran
     let mut count = 0;
     loop {
         let gone = to_stamp(state.phy, trace, place, count, budget, buffer);
-        let phy = gone.phy;
-        let n = gone.count;
-        let behind = gone.behind;
-        state.phy = phy;
-        match behind {
-            Behind::Stamp { counter, next } => {
-                let r = bay::stamped(state, counter);
-                let answer = r.answer;
-                buffer[n] = byte_for(r.refusal, answer.code);
-                state = r.next;
-                place = next;
-                count = n + 1;
-            }
-            Behind::Stop(stop) => return stopped(state, n, stop),
-        }
+        state.phy = gone.phy;
+        let stamp = match gone.behind {
+            Ok(stamp) => stamp,
+            Err(stop) => return stopped(state, gone.count, stop),
+        };
+        let r = bay::stamped(state, stamp.value);
+        buffer[gone.count] = byte_for(r.refusal, r.answer.code);
+        state = r.next;
+        place = stamp.next;
+        count = gone.count + 1;
     }
 }
 
@@ -166,9 +146,9 @@ pub fn run(phy: Phy, trace: &[u8], budget: usize, buffer: &mut [u8]) -> Ran
 {
     if phy::valid(phy) {
         if buffer.len() < budget {
-            return stopped(unstamped(phy), 0, Stop::NoRoom);
+            return stopped(unstamped(phy), 0, Stop::Refused(Refusal::NoRoom));
         }
         return take_events(unstamped(phy), trace, budget, buffer);
     }
-    stopped(unstamped(phy), 0, Stop::BadState)
+    stopped(unstamped(phy), 0, Stop::Refused(Refusal::BadState))
 }

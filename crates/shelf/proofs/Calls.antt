@@ -9,8 +9,7 @@ use Rattle.event.specs.declared.ShelfEvent.{ShelfEvent}
 use Rattle.trace.specs.declared.Reader.{Reader}
 use Rattle.shelf.specs.Reading.{ToldShelf, shelf_event, shelf_end, shelf_refused, zero_shelf, shelf_given, shelf_reached, tells_shelf}
 use Rattle.shelf.specs.Promises.{ReadsShelf, TakesShelf}
-use Rattle.shelf.specs.Laws.{ShelfPasses, here, on, ShelfCalls, uncalled, called, FaultStays, StaysPut, FirstGiven, FirstEvents}
-use Rattle.shelf.specs.declared.ShelfRead.{ShelfRead}
+use Rattle.shelf.specs.Laws.{ShelfRead, ShelfPasses, here, on, ShelfCalls, uncalled, called, FaultStays, StaysPut, FirstGiven, FirstEvents}
 use Rattle.shelf.proofs.Determined.{determined}
 use Rattle.shelf.proofs.Refusals.{fault_at_first}
 

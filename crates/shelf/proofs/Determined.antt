@@ -1,32 +1,32 @@
 -- Each result says one thing, so a contract that gives what is said gives the result.
-use mathlib.Core.List.{[], ◌∷◌}
-use mathlib.Core.Path.{◌≡◌, refl}
-use Rattle.table.specs.Choice.{◌⇒◌, rows}
-use Rattle.table.specs.Refusals.{bad_event, cut}
+use mathlib.Core.Path.{◌≡◌, refl, ap}
+use Rattle.std.specs.Prelude.{Some, None, Ok, Err}
+use Rattle.table.specs.declared.Refusal.{Refusal}
 use Rattle.table.specs.Results.{TellsOnce}
-use Rattle.table.proofs.Results.{leads_back, by_telling, by_equation, with_lent}
+use Rattle.table.proofs.Results.{leads_back, refusal_of, refusal_back, by_telling, by_equation, with_lent}
 use Rattle.trace.proofs.Determined.{written_once}
 use Rattle.shelf.specs.Reading.{ToldShelf, shelf_event, shelf_end, shelf_refused, tells_shelf}
-use Rattle.shelf.specs.Laws.{Determined}
-use Rattle.shelf.specs.declared.ShelfRead.{ShelfRead}
-use Rattle.shelf.specs.declared.ShelfRead.TheVariants.{Event, End, BadEvent, Cut, TooLarge}
+use Rattle.shelf.specs.Laws.{ShelfRead, Determined, ReachesTold}
 
 -- what is said tells which result said it
 answer : ToldShelf → ShelfRead
-answer (shelf_event e next) = Event e next
-answer shelf_end = End
-answer (shelf_refused n at) = rows n ((bad_event ⇒ BadEvent at) ∷ (cut ⇒ Cut at) ∷ []) (TooLarge at)
+answer (shelf_event e next) = Ok (Some (record { value = e; next = next }))
+answer shelf_end = Ok None
+answer (shelf_refused n at) = Err (record { refusal = refusal_of n; place = at })
 
 answers : (r : ShelfRead) → answer (tells_shelf r) ≡ r
 unfolding answer
-answers (Event e next) = refl
-answers End = refl
-answers (BadEvent first) = refl
-answers (Cut first) = refl
-answers (TooLarge first) = refl
+answers (Ok (Some found)) = refl
+answers (Ok None) = refl
+answers (Err f) = ap (λ (refusal : Refusal). Err (record { refusal = refusal; place = f.place })) (refusal_back f.refusal)
 
 pub read_once : TellsOnce tells_shelf
 read_once = leads_back answer answers
+
+pub reaches_told : ReachesTold
+reaches_told (Ok (Some found)) place r h = h
+reaches_told (Ok None) place r h = h
+reaches_told (Err f) place r h = h
 
 pub determined : Determined
 determined =

@@ -4,17 +4,22 @@ use mathlib.Core.Bool.{true, false}
 use mathlib.Core.List.{List, [], ◌∷◌, ◌++◌}
 use mathlib.Core.Path.{◌≡◌, refl, sym, ap, ◌∙◌}
 use native.Mathlib.Omega.{arith}
-use borrow.Author.Tests.{le-leb, lt-leb}
+use borrow.Author.Tests.{le-leb, lt-leb, leb-false}
 use lib.ListN.{length, set, length-append}
 use lib.Seq.{sets, set_comm, length-sets}
+use Rattle.std.specs.Prelude.{Ok, Err}
+use Rattle.table.specs.declared.Refusal.{Refusal}
+use Rattle.table.specs.declared.Refusal.TheVariants.{NoRoom}
+use Rattle.table.proofs.Laws.{by_test}
 use Rattle.number.specs.Writing.{number_bytes}
 use Rattle.number.specs.Writing as number
+use Rattle.number.specs.Promises.{WritesNumber}
+use Rattle.number.proofs.RoundTrip as number-laws
 use Rattle.event.specs.Table.{known_in_trace}
 use Rattle.event.specs.declared.ShelfEvent.{ShelfEvent}
-use Rattle.trace.specs.Writing.{wrote, event_bytes}
+use Rattle.trace.specs.Writing.{wrote, event_bytes, fits}
 use Rattle.trace.specs.Promises.{WritesEvent}
-use Rattle.trace.specs.declared.EventWritten.TheVariants.{Length, NoRoom}
-use Rattle.trace.proofs.Refusals.{no_room_exactly, refused_keeps}
+use Rattle.trace.proofs.Room.{refused_not_wrote}
 use Rattle.trace.proofs.RoundTrip.{Fits, fitted}
 use Rattle.shelf.specs.Writing.{shelf_bytes, shelf_fits}
 use Rattle.shelf.specs.Promises.{WritesShelf}
@@ -42,19 +47,25 @@ unfolding shelf_bytes
 long e = simp length-append (omega arith)
 
 module _ (e : ShelfEvent) (before : List ℕ) (place : ℕ) where
-  pub no_room_lem : known_in_trace e.event ≡ true → length before < place + length (shelf_bytes e) → WritesShelf e before place NoRoom before
+  pub no_room_lem : known_in_trace e.event ≡ true → length before < place + length (shelf_bytes e) → WritesShelf e before place (Err NoRoom) before
   no_room_lem k h =
       let f : shelf_fits e before place ≡ false = lt-leb (place + length (shelf_bytes e)) (length before) h in
       record { says = rw (k, f) refl; leaves = rw (k, f) refl }
 
   -- the number takes `ahead` bytes, behind which the event was written
   module _ {ahead : ℕ} (l : ahead ≡ length (number_bytes e.number)) {middle : List ℕ} where
-    pub event_without_room : WritesEvent e.event before (place + ahead) NoRoom middle → WritesShelf e before place NoRoom middle
-    event_without_room c =
-        let w = (no_room_exactly e.event before (place + ahead)).0 (sym c.says) in
-        rw (c.leaves, (refused_keeps e.event before (place + ahead) _ (sym c.says)).1) (no_room_lem w.0 (omega (arith, long e, w.1)))
+    pub event_refused : (refusal : Refusal) → WritesEvent e.event before (place + ahead) (Err refusal) middle → WritesShelf e before place (Err refusal) middle
+    event_refused refusal c =
+        by_test (known_in_trace e.event)
+        (λ k.
+        by_test (fits e.event before (place + ahead))
+        (λ f. absurd (refused_not_wrote (rw (k, f) at c.says)))
+        (λ f.
+        let g : shelf_fits e before place ≡ false = lt-leb (place + length (shelf_bytes e)) (length before) (omega (arith, long e, leb-false (place + ahead + length (event_bytes e.event)) (length before) f)) in
+        record { says = rw (k, g) (rw (k, f) at c.says); leaves = rw (k, g) (rw (k, f) at c.leaves) }))
+        (λ k. record { says = rw k (rw k at c.says); leaves = rw k (rw k at c.leaves) })
 
-    module _ {n : ℕ} (c : WritesEvent e.event before (place + ahead) (Length n) middle) where
+    module _ {n : ℕ} (c : WritesEvent e.event before (place + ahead) (Ok n) middle) where
       event_fits : Fits e.event before (place + ahead) n
       event_fits = fitted e.event before (place + ahead) n (sym c.says)
 
@@ -62,13 +73,18 @@ module _ (e : ShelfEvent) (before : List ℕ) (place : ℕ) where
       both_fit = omega (arith, event_fits)
 
       -- so the number has room too
-      number_stored : number.buffer_after e.number middle place ≡ sets middle place (number_bytes e.number)
-      number_stored =
+      number_fits : number.fits e.number middle place ≡ true
+      number_fits =
           let same : length middle ≡ length before = ap length (c.leaves ∙ event_fits.left) ∙ length-sets before (place + ahead) (event_bytes e.event) in
-          let f : number.fits e.number middle place ≡ true = le-leb (place + length (number_bytes e.number)) (length middle) (omega (arith, both_fit)) in
-          rw f refl
+          le-leb (place + length (number_bytes e.number)) (length middle) (omega (arith, both_fit))
 
-      pub both_written : {after : List ℕ} → after ≡ number.buffer_after e.number middle place → WritesShelf e before place (Length (ahead + n)) after
+      pub number_written : (refusal : Refusal) {after : List ℕ} → WritesNumber e.number middle place (Err refusal) after → ⊥
+      number_written refusal w = number-laws.refused_not_wrote (rw number_fits at w.says)
+
+      number_stored : number.buffer_after e.number middle place ≡ sets middle place (number_bytes e.number)
+      number_stored = rw number_fits refl
+
+      pub both_written : {after : List ℕ} → after ≡ number.buffer_after e.number middle place → WritesShelf e before place (Ok (ahead + n)) after
       unfolding shelf_bytes
       both_written d =
           let k = event_fits.known in

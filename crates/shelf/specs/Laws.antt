@@ -1,22 +1,27 @@
 -- What is promised of events of a shelf trace beyond the contracts. A heading names the files of proofs/.
 use Rattle.std.specs.Prelude.{ℕ, ◌+◌, ◌^◌, ◌≤◌, ◌<◌, true, false, List, [], ◌∷◌}
-use Rattle.std.specs.Prelude.{map, ◌↔◌, ◌⊎◌, ◌≡◌, length, take, drop, replicate}
+use Rattle.std.specs.Prelude.{Option, Result, map, ◌↔◌, ◌⊎◌, ◌≡◌, length, take, drop, replicate}
 use Rattle.std.specs.Borrow.{Bor}
 use Rattle.table.specs.Refusals.{bad_event, cut, too_large, no_room}
 use Rattle.table.specs.Results.{TellsOnce, Determines, DeterminesLent}
 use Rattle.number.specs.Reading.{value, read_number}
 use Rattle.number.specs.Laws.{Bytes, EndsEarly, TenthTooLarge}
+use Rattle.number.specs.declared.Found.{Found}
 use Rattle.event.specs.Table.{known_in_trace}
 use Rattle.event.specs.declared.ShelfEvent.{ShelfEvent}
 use Rattle.trace.specs.Writing.{wrote, refused, length_given}
-use Rattle.trace.specs.Promises.{StartsReader}
+use Rattle.trace.specs.Promises.{StartsReader, ReachesPlace}
 use Rattle.trace.specs.Laws.{Stands, MovesOn, Faulty, OutOfRange, SameNumbers}
 use Rattle.trace.specs.declared.Reader.{Reader}
 use Rattle.shelf.specs.Reading.{ToldShelf, shelf_event, shelf_end, shelf_refused, read_shelf, zero_shelf, shelf_given}
 use Rattle.shelf.specs.Reading.{shelf_reached, tells_shelf}
 use Rattle.shelf.specs.Writing.{shelf_bytes, shelf_trace_bytes, write_shelf, shelf_after}
 use Rattle.shelf.specs.Promises.{ReadsShelf, ReachesShelf, WritesShelf, TakesShelf}
-use Rattle.shelf.specs.declared.ShelfRead.{ShelfRead}
+use Rattle.trace.specs.declared.Fault.{Fault}
+
+-- what `event_at` gives
+abbrev pub ShelfRead : Type 0
+ShelfRead = Result (Option (Found ShelfEvent)) Fault
 
 -- ---- results are determined (proofs/Determined)
 
@@ -27,6 +32,10 @@ pub record Determined : Type 0 where
   pub place_reached : (read : ShelfRead) (place : ℕ) → Determines (ReachesShelf read place)
   pub write_event : (e : ShelfEvent) (before : List ℕ) (place : ℕ) → DeterminesLent (WritesShelf e before place)
   pub next : (before : Reader) → DeterminesLent (TakesShelf before)
+
+-- `place_reached` of `trace` meets the contract of an event on a shelf
+abbrev pub ReachesTold : Type 0
+ReachesTold = (read : ShelfRead) (place r : ℕ) → ReachesPlace read place r → ReachesShelf read place r
 
 -- ---- one event (proofs/RoundTrip, proofs/Accepted)
 

@@ -1,13 +1,13 @@
 -- Reading an event of a shelf trace: the number of its phy, and behind it the event as in a trace of one phy.
-use Rattle.std.specs.Prelude.{ℕ, List, [], leb, length}
+use Rattle.std.specs.Prelude.{ℕ, List, [], Option, Some, None, Result, Ok, Err, leb, length}
 use Rattle.table.specs.Choice.{pick}
-use Rattle.table.specs.Refusals.{bad_event, cut, too_large}
+use Rattle.table.specs.Refusals.{number_of}
 use Rattle.number.specs.Reading.{read_number}
+use Rattle.number.specs.declared.Found.{Found}
 use Rattle.event.specs.Table.{event_of}
 use Rattle.event.specs.declared.ShelfEvent.{ShelfEvent}
 use Rattle.trace.specs.Reading.{Got, got, fault, onwards, of_number, read_numbers}
-use Rattle.shelf.specs.declared.ShelfRead.{ShelfRead}
-use Rattle.shelf.specs.declared.ShelfRead.TheVariants.{Event as Known, End, BadEvent, Cut, TooLarge}
+use Rattle.trace.specs.declared.Fault.{Fault}
 
 -- what reading says: an event and the place after it, the trace's end, or a refusal and where its phy number starts
 pub data ToldShelf : Type 0 where
@@ -47,9 +47,7 @@ shelf_reached place shelf_end = place
 shelf_reached place (shelf_refused n at) = place
 
 -- what each result says, as the paper numbers it
-abbrev pub tells_shelf : ShelfRead → ToldShelf
-tells_shelf (Known e next) = shelf_event e next
-tells_shelf End = shelf_end
-tells_shelf (BadEvent first) = shelf_refused bad_event first
-tells_shelf (Cut first) = shelf_refused cut first
-tells_shelf (TooLarge first) = shelf_refused too_large first
+abbrev pub tells_shelf : Result (Option (Found ShelfEvent)) Fault → ToldShelf
+tells_shelf (Ok (Some found)) = shelf_event found.value found.next
+tells_shelf (Ok None) = shelf_end
+tells_shelf (Err f) = shelf_refused (number_of f.refusal) f.place

@@ -114,6 +114,10 @@ module _ {whole : Went} {s : List ℕ} {budget : ℕ} {before : List ℕ} {st : 
   pub stop_end : count < budget → read_shelf s place ≡ shelf_end → (r : Gone) → r ≡ gone bays (ran count at_end) → Through whole before r queue buffer
   stop_end h f r e = stopped_at (by_read_lem h f) r e
 
+  -- the budget is spent
+  pub spent_stage : budget ≤ count → Stage whole s budget before st bays queue place budget buffer
+  spent_stage h = subst (λ (n : ℕ). Stage whole s budget before st bays queue place n buffer) (omega (arith, w.spent)) w
+
   -- by the budget, or by the end where it is spent there
   pub stop_spent : budget ≤ count → (r : Gone) → r ≡ gone bays (ran count (spent_at place (length s))) → Through whole before r queue buffer
   unfolding going

@@ -9,10 +9,9 @@ ghost use Rattle.shelf_run.specs.Promises.{TakesEvents, GoesOver};
 use crate::{Gone, Ran, Table};
 use bay::Bay;
 use port::{MOST_PHYS, Scan, Standing, Stepped};
-use replies::stop_reply;
+use replies::StopReply;
 use run::Stop;
-use shelf::ShelfRead;
-use table::OFF;
+use table::{OFF, Refusal};
 
 // A table of fresh bays.
 pub(crate) fn empty() -> Table
@@ -68,7 +67,7 @@ fn stopped(table: Table, count: usize, stop: Stop) -> Gone
         table,
         ran: Ran {
             count,
-            stop: stop_reply(stop),
+            stop: StopReply::from(stop),
         },
     }
 }
@@ -100,10 +99,10 @@ fn take_events(
     let mut stands = standing;
     let mut table = table;
     let mut place = 0;
-    let mut count = 0;
-    while count < budget {
+    for count in 0..budget {
         match shelf::event_at(trace, place) {
-            ShelfRead::Event { event, next } => {
+            Ok(Some(found)) => {
+                let event = found.value;
                 let at = port::concerned(stands.free, event.number);
                 let held = ((at as u64) < stands.count) & (at < MOST_PHYS);
                 let own = if held { table.bays[at] } else { bay::fresh() };
@@ -114,16 +113,13 @@ fn take_events(
                     table.bays[at] = bay;
                 }
                 stands = taken.standing;
-                place = next;
-                count += 1;
+                place = found.next;
             }
-            ShelfRead::End => return stopped(table, count, Stop::End),
-            ShelfRead::BadEvent(first) => return stopped(table, count, Stop::BadEvent(first)),
-            ShelfRead::Cut(first) => return stopped(table, count, Stop::Cut(first)),
-            ShelfRead::TooLarge(first) => return stopped(table, count, Stop::TooLarge(first)),
+            Ok(None) => return stopped(table, count, Stop::End),
+            Err(fault) => return stopped(table, count, Stop::Fault(fault)),
         }
     }
-    spent(table, count, place, trace.len())
+    spent(table, budget, place, trace.len())
 }
 
 // A run over what was surveyed: the port is judged as given, then every base is unset.
@@ -140,7 +136,7 @@ pub(crate) fn over(
     let judged = port::judge(scan, queue);
     if judged.valid {
         if buffer.len() < budget {
-            return stopped(table, 0, Stop::NoRoom);
+            return stopped(table, 0, Stop::Refused(Refusal::NoRoom));
         }
         return take_events(
             judged.standing,
@@ -151,5 +147,5 @@ pub(crate) fn over(
             buffer,
         );
     }
-    stopped(table, 0, Stop::BadState)
+    stopped(table, 0, Stop::Refused(Refusal::BadState))
 }

@@ -20,7 +20,7 @@ refused_is e = cc
 wrote_is : {m n : ℕ} → wrote m ≡ wrote n → m ≡ n
 wrote_is e = cc
 
-refused_not_wrote : {m n : ℕ} → refused m ≡ wrote n → ⊥
+pub refused_not_wrote : {m n : ℕ} → refused m ≡ wrote n → ⊥
 refused_not_wrote e = apart cc
 
 module _ (known : Bool) (bytes buffer : List ℕ) (place : ℕ) where
