@@ -1,6 +1,10 @@
 -- The listing of a trace, whatever is listed: the whole of it, and the same line by line.
 use Rattle.std.specs.Prelude.{ℕ, suc, ◌+◌, ◌%◌, ◌^◌, ◌≤◌, ◌<◌, Bool, true, false, List, ◌++◌, ◌≡◌, leb, length}
+use Rattle.std.specs.Prelude.{Option, Some, None, Result, Ok, Err}
 use Rattle.table.specs.Choice.{pick}
+use Rattle.table.specs.Refusals.{number_of}
+use Rattle.number.specs.declared.Found.{Found as FoundAt}
+use Rattle.trace.specs.declared.Fault.{Fault}
 use Rattle.lines.specs.Lines.{end_line, stop_line, too_long_line}
 use Rattle.lines.specs.declared.Progress.{Progress}
 use Rattle.lines.specs.declared.Progress.TheVariants.{Header, Events, TooLong, Done}
@@ -14,6 +18,12 @@ pub data Found (E : Type 0) : Type 0 where
   found : E → ℕ → Found E
   nothing : Found E
   fault : ℕ → ℕ → Found E
+
+-- what code finds there, in those words
+abbrev pub found_in : {E : Type 0} → Result (Option (FoundAt E)) Fault → Found E
+found_in (Ok (Some f)) = found f.value f.next
+found_in (Ok None) = nothing
+found_in (Err f) = fault (number_of f.refusal) f.place
 
 -- what is listed: the header's line, how events are read, the line of one, and what it makes of a state
 pub record Listable (S E : Type 0) : Type 0 where

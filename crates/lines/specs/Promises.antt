@@ -1,15 +1,18 @@
 -- What each function promises, cited by its `ensures` and, of the public ones, by `Determined` in Laws; and what the
 -- function of any listing promises that writes the next line.
-use Rattle.std.specs.Prelude.{ℕ, ◌+◌, ◌≤◌, Bool, true, false, List, [], ◌≡◌, Result, Ok, Err, leb, length}
+use Rattle.std.specs.Prelude.{ℕ, ◌+◌, ◌≤◌, Bool, true, false, List, [], ◌≡◌, Option, Result, Ok, Err, leb, length}
 use Rattle.std.proofs.lemmas.List.Edits.{sets}
 use Rattle.table.specs.Choice.{pick}
 use Rattle.table.specs.Refusals.{no_room, number_of}
 use Rattle.table.specs.declared.Refusal.{Refusal}
 use Rattle.table.specs.declared.Refusal.TheVariants.{NoRoom}
+use Rattle.number.specs.declared.Found.{Found as FoundAt}
+use Rattle.trace.specs.declared.Fault.{Fault}
 use Rattle.output.specs.Writing.{line}
 use Rattle.output.specs.declared.Text.{Text}
 use Rattle.lines.specs.Lines.{most_line, most_columns, end_line, stop_line, too_long_line}
-use Rattle.lines.specs.Listing.{Next, line_of, no_line, start_of}
+use Rattle.lines.specs.Listing.{Listable, Next, line_of, no_line, start_of, line_at, found_in}
+use Rattle.lines.specs.declared.listing.Listed.{Listed}
 use Rattle.lines.specs.declared.Progress.{Progress}
 use Rattle.lines.specs.declared.Progress.TheVariants.{Done as ProgressDone}
 use Rattle.lines.specs.declared.Written.{Written}
@@ -137,3 +140,37 @@ abbrev pub moved_on : {S : Type 0} → Answer → (old b : S) → S
 moved_on (Ok (Line next n)) old b = b
 moved_on (Ok (Done whole)) old b = old
 moved_on (Err refusal) old b = old
+
+-- ---- of what is listed
+
+-- `header`: the names of the columns, as one line
+pub record GivesHeader {S E : Type 0} (m : Listable S E) (r : List ℕ) : Type 0 where
+  pub words : r ≡ m.header
+  pub short : length r ≤ most_line
+
+-- `read` of the trace s at a place
+abbrev pub ReadsAt : {S E : Type 0} → Listable S E → List ℕ → ℕ → Result (Option (FoundAt E)) Fault → Type 0
+ReadsAt m s place r = found_in r ≡ m.reads s place
+
+-- `put_event` of an event at a place: the state after it, whether or not its line has room, and the line
+pub record PutsEvent {S E : Type 0} (m : Listable S E) (b : S) (place : ℕ) (e : E) (next : Progress) (before : List ℕ)
+    (at : ℕ) (r : Listed S) (after : List ℕ) : Type 0
+  where
+    pub state : r.state ≡ m.next b e
+    pub line : PutsShort (m.line place b e) next before at r.written after
+
+-- what comes next of a state is written into the buffer `before` at a place, which leaves it as `after`
+abbrev pub WritesNext : {S : Type 0} → Next S → S → (before : List ℕ) → (at : ℕ) → Listed S → (after : List ℕ) → Type 0
+WritesNext n b before at r after = PutsNext n b before at r.state r.written after
+
+-- `next_line` of the trace s at a progress, with a state
+abbrev pub WritesLine :
+    {S E : Type 0} → Listable S E → (s : List ℕ) → Progress → S → (before : List ℕ) → (at : ℕ) → Listed S
+    → (after : List ℕ) → Type 0
+WritesLine m s progress b before at r after = WritesNext (line_at m s progress b) b before at r after
+
+-- a text goes on as a contract says of a result with a state
+abbrev pub GoesWith :
+    {S : Type 0} → ((before : List ℕ) (at : ℕ) (r : Listed S) (after : List ℕ) → Type 0) → (old new : Text) → Listed S
+    → Type 0
+GoesWith Contract old new r = Goes (λ before at a after. Contract before at r after) old new r.written

@@ -7,6 +7,9 @@ ghost use Rattle.lines.specs.Lines.{most_line, last_line};
 ghost use Rattle.lines.specs.Promises.{StartsListing, Goes, PutsLine, PutsColumns, PutsLast};
 ghost use Rattle.lines.specs.Promises.{PutsEnd, PutsStop, PutsTooLong};
 
+mod listing;
+
+pub use listing::{Listed, Listing};
 use output::Text;
 use table::Refusal;
 

@@ -1,13 +1,11 @@
 -- What the lister's functions say of its input and, by its outcome, of the trace that it listed.
-use Rattle.std.specs.Prelude.{ℕ, suc, ◌+◌, ◌-◌, ◌*◌, Bool, true, false, ◌&&◌, List, [], ◌∷◌, ◌⊎◌, ◌≡◌, eqb, leb}
+use Rattle.std.specs.Prelude.{ℕ, suc, ◌+◌, ◌-◌, ◌*◌, Bool, true, false, ◌&&◌, List, [], ◌∷◌, ◌⊎◌, ◌≡◌, Option, Some, None, eqb, leb}
 use Rattle.table.specs.Choice.{pick}
 use Rattle.output.specs.Decimal.{digit}
 use Rattle.output.specs.Writing.{lost}
 use Rattle.lines.specs.Listing.{most_trace, Listable, start_of}
 use Rattle.lines.specs.Laws.{Lines}
 use Rattle.lines.specs.declared.Progress.{Progress}
-use Rattle.lister.specs.declared.Input.{Input}
-use Rattle.lister.specs.declared.Input.TheVariants.{Length, Unread as unread}
 use Rattle.lister.specs.declared.Outcome.{Outcome}
 use Rattle.lister.specs.declared.Outcome.TheVariants.{Whole, Damaged, Unwritten, Unread}
 
@@ -37,10 +35,14 @@ meant_behind limit n (d ∷ ds) =
 abbrev pub meant_by : (limit : ℕ) → List ℕ → ℕ
 meant_by limit text = meant_behind limit 0 text
 
+-- a number of phys that a port may have; 0 means none
+abbrev pub some_phys : ℕ → Option ℕ
+some_phys phys = pick (eqb phys 0) None (Some phys)
+
 -- `total`: the input is as long as what was kept, or longer than may be listed, or unread; no contract says which
-abbrev pub Measures : (kept : ℕ) → Input → Type 0
-Measures kept (Length n) = (n ≡ kept) ⊎ ((kept ≡ most_trace) × (n ≡ suc most_trace))
-Measures kept unread = Unit
+abbrev pub Measures : (kept : ℕ) → Option ℕ → Type 0
+Measures kept (Some n) = (n ≡ kept) ⊎ ((kept ≡ most_trace) × (n ≡ suc most_trace))
+Measures kept None = Unit
 
 -- `ending`: once the last line is made, and n tells whether all was written
 abbrev pub ending_of : (whole : Bool) (n : ℕ) → Outcome

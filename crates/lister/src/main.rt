@@ -2,16 +2,16 @@
 // lines say is proved in crates `listing` and `shelf_listing`; here they are gathered and written out.
 #![tactic(auto)]
 
-ghost use Rattle.std.specs.Prelude.{◌≡◌, length};
-ghost use Rattle.bay.specs.State.{fresh_bay};
-ghost use Rattle.listing.specs.Listing.{of_phy};
+ghost use Rattle.std.specs.Prelude.{◌≡◌, ◌-◌, Some, None};
+ghost use Rattle.table.specs.Choice.{pick};
 ghost use Rattle.port.specs.Names.{most_phys};
-ghost use Rattle.shelf_listing.specs.Held.{fresh_shelf, of_shelf};
-ghost use Rattle.lister.specs.Says.{meant_by, Measures, ending_of, ListsTo};
+ghost use Rattle.lister.specs.Says.{first_digit, is_digit, meant_by, some_phys, Measures, ending_of, ListsTo};
 
-use lines::LineWritten;
-use output::{LOST, fail, read_full, write_out};
+use lines::{Listing, Written};
+use listing::OfPhy;
+use output::{Text, fail, read_full};
 use port::MOST_PHYS;
+use shelf_listing::OfShelf;
 use std::env::FillError;
 use std::fmt::Display;
 use std::fs::OpenOptions;
@@ -25,10 +25,6 @@ const OUTCOME: &str = "/dev/fd/3";
 const TOLD: usize = 1;
 
 const PHYS: usize = 2;
-
-const FIRST_DIGIT: usize = 48;
-
-const LAST_DIGIT: usize = 57;
 
 // An argument that is longer is no number of phys.
 const MOST_ARGUMENT: usize = 20;
@@ -48,40 +44,33 @@ enum Outcome {
     Unread,
 }
 
-// The input: how long it is, or that it cannot be read.
-#[derive(Clone, Copy)]
-enum Input {
-    Length(usize),
-    Unread,
-}
-
-// How long the input is of which this many bytes were kept. The read that kept them cannot tell the
-// input's end from a failure, so one byte more is asked for; it also tells that the input is too long.
-fn total(rt: &impl Eprint, input: &mut impl Read, kept: usize) -> Input
+// How long the input is of which this many bytes were kept, where it can be read. The read that kept them cannot
+// tell the input's end from a failure, so one byte more is asked for; it also tells that the input is too long.
+fn total(rt: &impl Eprint, input: &mut impl Read, kept: usize) -> Option<usize>
     ensures { Measures kept result }
 {
     let mut more = [0u8; 1];
     match input.read(&mut more) {
-        Ok(0) => Input::Length(kept),
+        Ok(0) => Some(kept),
         Ok(_) => {
             if kept == lines::MOST_TRACE {
-                return Input::Length(lines::MOST_TRACE + 1);
+                return Some(lines::MOST_TRACE + 1);
             }
             let _ = rt.eprintln(UNREAD);
-            Input::Unread
+            None
         }
         Err(error) => {
             fail(rt, UNREAD, &error);
-            Input::Unread
+            None
         }
     }
 }
 
-// The outcome after the last line, where n tells whether all was written.
-fn ending(whole: bool, n: usize) -> Outcome
-    ensures { result ≡ ending_of whole n }
+// The outcome after the last line, where the text tells whether all was written.
+fn ending(whole: bool, text: &Text) -> Outcome
+    ensures { result ≡ ending_of whole text.now.n }
 {
-    if n == LOST {
+    if text.is_lost() {
         return Outcome::Unwritten;
     }
     if whole {
@@ -90,103 +79,73 @@ fn ending(whole: bool, n: usize) -> Outcome
     Outcome::Damaged
 }
 
-// Lists a trace; `total` says how long the input was, which may be longer. The lines are gathered in
-// `out`, which is written when it has no room for the next one. Where a write fails the listing stops.
-fn list(rt: &(impl Print + Eprint), trace: &[u8], total: usize, out: &mut [u8]) -> Outcome
-    requires { 65536 ≡ length out.old }
-    ensures { ListsTo of_phy fresh_bay trace.now total result }
-{
-    let mut progress = lines::start(total);
-    let mut bay = bay::fresh();
-    let mut n = 0;
-    loop {
-        let listed = listing::next_line(trace, progress, bay, out, n);
-        let written = listed.written;
-        bay = listed.bay;
-        match written {
-            LineWritten::Line { next, length } => {
-                progress = next;
-                n += length;
-            }
-            LineWritten::NoRoom => {
-                n = write_out(rt, out, n, 0);
-                if n == LOST {
-                    return Outcome::Unwritten;
-                }
-            }
-            LineWritten::Done { whole } => return ending(whole, write_out(rt, out, n, 0)),
-        }
-    }
-}
-
-// The same of a shelf of fresh phys.
-fn list_shelf(
+// Lists a trace from a state on; `total` says how long the input was, which may be longer. The lines are gathered,
+// and written when there is no room for the next one. Where a write fails the listing stops.
+fn list<L: Listing>(
     rt: &(impl Print + Eprint),
+    from: L::State,
     trace: &[u8],
     total: usize,
-    phys: usize,
-    out: &mut [u8],
 ) -> Outcome
-    requires { 65536 ≡ length out.old }
-    ensures { ListsTo of_shelf (fresh_shelf phys) trace.now total result }
+    ensures { ListsTo L.listable from trace.now total result }
 {
+    let mut room = [0u8; ROOM];
+    let mut text = Text::new(&mut room);
     let mut progress = lines::start(total);
-    let mut shelf = shelf_listing::fresh(phys);
-    let mut n = 0;
+    let mut state = from;
     loop {
-        let listed = shelf_listing::next_line(trace, progress, shelf, out, n);
-        let written = listed.written;
-        shelf = listed.shelf;
-        match written {
-            LineWritten::Line { next, length } => {
-                progress = next;
-                n += length;
+        let listed = L::next_line(trace, progress, state, &mut text);
+        state = listed.state;
+        match listed.written {
+            Ok(Written::Line { next, .. }) => progress = next,
+            Ok(Written::Done { whole }) => {
+                text.write_out(rt, 0);
+                return ending(whole, &text);
             }
-            LineWritten::NoRoom => {
-                n = write_out(rt, out, n, 0);
-                if n == LOST {
+            Err(_) => {
+                text.write_out(rt, 0);
+                if text.is_lost() {
                     return Outcome::Unwritten;
                 }
             }
-            LineWritten::Done { whole } => return ending(whole, write_out(rt, out, n, 0)),
         }
     }
 }
 
-// The number of phys that a text means, in decimal digits; 0 where it means none that a port may have.
-fn meant_by(text: &[u8]) -> usize
-    ensures { result ≡ meant_by most_phys text.now }
+// The digit that a byte is.
+fn digit_of(byte: u8) -> Option<usize>
+    ensures { result ≡ pick (is_digit byte) (Some (byte - first_digit)) None }
+{
+    match byte {
+        b'0'..=b'9' => Some((byte - b'0') as usize),
+        _ => None,
+    }
+}
+
+// The number of phys that a text means, in decimal digits alone, where it means one that a port may have.
+fn meant_by(text: &[u8]) -> Option<usize>
+    ensures { result ≡ some_phys (meant_by most_phys text.now) }
 {
     let mut phys = 0;
-    let mut i = 0;
-    while i < text.len() {
-        let digit = text[i] as usize;
-        if (FIRST_DIGIT <= digit) & (digit <= LAST_DIGIT) {
-            phys = phys * 10 + (digit - FIRST_DIGIT);
-            i += 1;
-        } else {
-            return 0;
-        }
+    for byte in text {
+        phys = phys * 10 + digit_of(*byte)?;
         if MOST_PHYS < phys {
-            return 0;
+            return None;
         }
     }
-    phys
+    if phys == 0 { None } else { Some(phys) }
 }
 
-// Lists the input; as a shelf's trace, where `phys` is not 0.
-fn list_input(rt: &(impl Print + Eprint), input: &mut impl Read, phys: usize) -> Outcome {
+// Lists the input; as a shelf's trace, where a number of phys is given.
+fn list_input(rt: &(impl Print + Eprint), input: &mut impl Read, phys: Option<usize>) -> Outcome {
     let mut trace = [0u8; lines::MOST_TRACE];
-    let mut out = [0u8; ROOM];
     let kept = read_full(input, &mut trace);
-    match total(rt, input, kept) {
-        Input::Length(total) => {
-            if phys == 0 {
-                return list(rt, &trace[..kept], total, &mut out);
-            }
-            list_shelf(rt, &trace[..kept], total, phys, &mut out)
-        }
-        Input::Unread => Outcome::Unread,
+    let Some(total) = total(rt, input, kept) else {
+        return Outcome::Unread;
+    };
+    match phys {
+        Some(phys) => list::<OfShelf>(rt, shelf_listing::fresh(phys), &trace[..kept], total),
+        None => list::<OfPhy>(rt, bay::fresh(), &trace[..kept], total),
     }
 }
 
@@ -200,13 +159,11 @@ fn is_given(rt: &impl Env, number: usize) -> bool {
     }
 }
 
-// The number of phys that the argument means; 0 where it means none that a port may have.
-fn phys_given(rt: &impl Env) -> usize {
+// The number of phys that the argument means, where it means one that a port may have.
+fn phys_given(rt: &impl Env) -> Option<usize> {
     let mut text = [0u8; MOST_ARGUMENT];
-    match rt.arg(PHYS, &mut text) {
-        Ok(length) => meant_by(&text[..length]),
-        Err(_) => 0,
-    }
+    let length = rt.arg(PHYS, &mut text).ok()?;
+    meant_by(&text[..length])
 }
 
 // The outcome as a line, where an argument asks for it. Where it cannot be told, nobody hears of that.
@@ -234,16 +191,15 @@ fn tell_most(rt: &(impl Env + Files)) {
 }
 
 fn main(rt: HostRuntime) {
-    if !is_given(&rt, PHYS) {
-        let outcome = list_input(&rt, &mut rt.stdin(), 0);
-        tell_outcome(&rt, outcome);
-        return;
-    }
-    let phys = phys_given(&rt);
-    if phys == 0 {
-        tell_most(&rt);
-        return;
-    }
+    let phys = if is_given(&rt, PHYS) {
+        let Some(phys) = phys_given(&rt) else {
+            tell_most(&rt);
+            return;
+        };
+        Some(phys)
+    } else {
+        None
+    };
     let outcome = list_input(&rt, &mut rt.stdin(), phys);
     tell_outcome(&rt, outcome);
 }

@@ -8,6 +8,6 @@ pub determined : Determined
 determined =
     record {
       next_line = λ s progress b before at r q after later x y.
-          let same = next_determined (line_at of_phy s progress b) b before at r.bay q.bay r.written q.written after later x y in
-          (λ i. record { bay = same.0 i; written = same.1 i }, same.2);
+          let same = next_determined (line_at of_phy s progress b) b before at r.state q.state r.written q.written after later x y in
+          (λ i. record { state = same.0 i; written = same.1 i }, same.2);
     }

@@ -7,7 +7,8 @@ use Rattle.bay.specs.State.{fresh_bay}
 use Rattle.lines.specs.Laws as lines
 use Rattle.listing.specs.Listing.{found_of, finds}
 use Rattle.listing.specs.Laws.{WholeExactly, EndTells}
-use Rattle.listing.proofs.Whole.{found_event, found_end, phy_listing}
+use Rattle.listing.specs.ReadsOn.{found_event, found_end}
+use Rattle.listing.proofs.Whole.{phy_listing}
 
 to_reader : {s : List ℕ} {place : ℕ} {es : List Event} → lines.ReadsAll finds s place es → trace.ReadsAll s place es
 to_reader {s} {place} (lines.ended e) = trace.ended (found_end (read_event s place) e)

@@ -1,34 +1,8 @@
--- What holds of every listing whose reading goes on holds of a phy's: an event read moves the place on, and the end comes where the trace ends.
-use Rattle.std.proofs.Common.{◌≡◌, ℕ, refl}
-use Rattle.table.proofs.Laws.{apart}
-use Rattle.event.specs.declared.Event.{Event}
-use Rattle.trace.specs.Reading.{Told, event, end, refused, read_event}
-use Rattle.trace.proofs.Accepted.{read_moves_on}
-use Rattle.trace.proofs.Refusals.{end_exactly}
-use Rattle.lines.specs.Listing.{found, nothing}
-use Rattle.lines.specs.Laws.{ReadsOn}
+-- What holds of every listing whose reading goes on holds of a phy's.
 use Rattle.lines.proofs.Holds.{listing_holds}
-use Rattle.listing.specs.Listing.{found_of, of_phy}
+use Rattle.listing.specs.Listing.{of_phy}
+use Rattle.listing.specs.ReadsOn.{reads_on}
 use Rattle.listing.specs.Laws.{PhyListing}
-
--- an event that a listing finds is one that the reader tells
-pub found_event : (t : Told) (e : Event) (next : ℕ) → found_of t ≡ found e next → t ≡ event e next
-found_event (event v after) e next h = let same : v ≡ e = cc in let to : after ≡ next = cc in rw (same, to) refl
-found_event end e next h = apart cc
-found_event (refused n at) e next h = apart cc
-
-pub found_end : (t : Told) → found_of t ≡ nothing → t ≡ end
-found_end (event v after) h = apart cc
-found_end end h = refl
-found_end (refused n at) h = apart cc
-
-pub reads_on : ReadsOn of_phy
-reads_on =
-    record {
-      forward = λ s place e next h. (read_moves_on s place e next (found_event (read_event s place) e next h)).forward;
-      within = λ s place e next h. (read_moves_on s place e next (found_event (read_event s place) e next h)).within;
-      at_end = λ s place h. (end_exactly s place).0 (found_end (read_event s place) h);
-    }
 
 pub phy_listing : PhyListing
 phy_listing = listing_holds of_phy reads_on

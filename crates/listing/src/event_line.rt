@@ -1,12 +1,14 @@
 // The columns of an event's line, and the line.
 ghost use Rattle.std.specs.Prelude.{◌≡◌};
 ghost use Rattle.listing.specs.Lines.{columns_of, event_line};
-ghost use Rattle.lines.specs.Promises.{PutsShort};
+ghost use Rattle.lines.specs.Promises.{Goes, PutsShort};
 
 use crate::Columns;
 use bay::{Stepped, last_notice};
 use event::Event;
-use lines::{LineWritten, Progress, put_columns};
+use lines::{Progress, Written, put_columns};
+use output::Text;
+use table::Refusal;
 
 pub(crate) fn columns_of(event: Event, stepped: Stepped) -> Columns
     ensures { result ≡ columns_of event stepped }
@@ -26,15 +28,14 @@ pub(crate) fn columns_of(event: Event, stepped: Stepped) -> Columns
     }
 }
 
-// An event at a place.
+// The line of an event at a place.
 pub(crate) fn put_event(
     place: usize,
     columns: Columns,
     next: Progress,
-    out: &mut [u8],
-    at: usize,
-) -> LineWritten
-    ensures { PutsShort (event_line place columns) next out.old at result out.new }
+    text: &mut Text,
+) -> Result<Written, Refusal>
+    ensures { Goes (PutsShort (event_line place columns) next) text.old text.new result }
 {
     let others = [
         columns.event,
@@ -45,5 +46,5 @@ pub(crate) fn put_event(
         columns.link,
         columns.port,
     ];
-    put_columns(place, &others, next, out, at)
+    put_columns(place, &others, next, text)
 }

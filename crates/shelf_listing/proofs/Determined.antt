@@ -10,6 +10,6 @@ determined =
     record {
       fresh = λ phys. by_equation (fresh_shelf phys);
       next_line = λ s progress h before at r q after later x y.
-          let same = next_determined (line_at of_shelf s progress h) h before at r.shelf q.shelf r.written q.written after later x y in
-          (λ i. record { shelf = same.0 i; written = same.1 i }, same.2);
+          let same = next_determined (line_at of_shelf s progress h) h before at r.state q.state r.written q.written after later x y in
+          (λ i. record { state = same.0 i; written = same.1 i }, same.2);
     }

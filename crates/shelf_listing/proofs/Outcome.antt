@@ -7,7 +7,8 @@ use Rattle.port.specs.State.{fresh_port}
 use Rattle.lines.specs.Laws as lines
 use Rattle.shelf_listing.specs.Listing.{found_of, finds}
 use Rattle.shelf_listing.specs.Laws.{WholeExactly, EndTells}
-use Rattle.shelf_listing.proofs.Whole.{found_event, found_end, port_listing, shelf_listing}
+use Rattle.shelf_listing.specs.ReadsOn.{found_event, found_end}
+use Rattle.shelf_listing.proofs.Whole.{port_listing, shelf_listing}
 
 to_reader : {s : List ℕ} {place : ℕ} {es : List ShelfEvent} → lines.ReadsAll finds s place es → shelf.ShelfReadsAll s place es
 to_reader {s} {place} (lines.ended e) = shelf.ended (found_end (read_shelf s place) e)

@@ -3,3 +3,4 @@ pub mod Listing
 pub mod Held
 pub mod Promises
 pub mod Laws
+pub mod ReadsOn

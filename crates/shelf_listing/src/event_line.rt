@@ -1,15 +1,17 @@
 // The columns of an event's line, and the line.
 ghost use Rattle.std.specs.Prelude.{◌≡◌};
 ghost use Rattle.held.specs.Rows.{front};
-ghost use Rattle.lines.specs.Promises.{PutsShort};
+ghost use Rattle.lines.specs.Promises.{Goes, PutsShort};
 ghost use Rattle.shelf_listing.specs.Lines.{states_at, columns_of, event_line};
 
 use crate::{Columns, States};
 use bay::last_notice;
 use event::ShelfEvent;
 use held::{MOST_HELD, Row};
-use lines::{LineWritten, Progress, put_columns};
+use lines::{Progress, Written, put_columns};
+use output::Text;
 use port::Stepped;
+use table::Refusal;
 
 const NO_PHY: States = States { link: 0, port: 0 };
 
@@ -53,15 +55,14 @@ pub(crate) fn columns_of(
     }
 }
 
-// An event at a place.
+// The line of an event at a place.
 pub(crate) fn put_event(
     place: usize,
     columns: Columns,
     next: Progress,
-    out: &mut [u8],
-    at: usize,
-) -> LineWritten
-    ensures { PutsShort (event_line place columns) next out.old at result out.new }
+    text: &mut Text,
+) -> Result<Written, Refusal>
+    ensures { Goes (PutsShort (event_line place columns) next) text.old text.new result }
 {
     let others = [
         columns.phy,
@@ -75,5 +76,5 @@ pub(crate) fn put_event(
         columns.handed,
         columns.waiting,
     ];
-    put_columns(place, &others, next, out, at)
+    put_columns(place, &others, next, text)
 }
