@@ -1,8 +1,9 @@
 -- What each function promises, cited by its `ensures` and, of the public ones, by `Determined` in Laws.
-use Rattle.std.specs.Prelude.{ℕ, ◌-◌, ◌≤◌, max, Bool, List, ◌≡◌, eqb, leb, length, take}
+use Rattle.std.specs.Prelude.{ℕ, ◌-◌, ◌≤◌, max, Bool, List, ◌⊎◌, ◌≡◌, eqb, leb, length, take}
 use Rattle.std.proofs.Math.Seq.{slice}
 use Rattle.table.specs.Choice.{pick}
 use Rattle.table.specs.Results.{Leaves}
+use Rattle.output.specs.Writing.{lost}
 use Rattle.output.specs.Promises.{Puts, PutsNumbersLine}
 use Rattle.casefile.specs.Reading.{taken, part_at, numbers_at, place_after}
 use Rattle.casefile.specs.Records.{phy_numbers, phy_of, event_from}
@@ -105,3 +106,7 @@ pub record GoesOn (before : List ℕ) (turn : Turn) (at : Place) (r : Turn) (aft
 pub record EndsWithin (old new : Input) : Type 0 where
   pub within : new.place ≤ length old.s.now
   pub same_file : new.s ≡ old.s
+
+-- `take_all`, after which a text goes on at r: nothing stays gathered, or a write failed
+abbrev pub TakesAll : (r : ℕ) → Type 0
+TakesAll r = (r ≡ 0) ⊎ (r ≡ lost)

@@ -2,13 +2,17 @@
 // What a fault spoils is left out, and the comparison with the expected output then fails.
 #![tactic(auto)]
 
+mod cases;
 mod input;
+mod listings;
 mod pieces;
 mod records;
 mod repeats;
 mod window;
 
+pub use cases::{Cases, take_all};
 pub use input::Input;
+pub use listings::list_case;
 pub use pieces::{put_piece, put_pieces};
 pub use records::{event_of, phy_numbers, phy_of};
 pub use repeats::put_repeats;
