@@ -32,31 +32,32 @@ pub fn read_number(s: &[u8], place: usize) -> Result<Found<u64>, Refusal>
     if first < HIGH {
         return Ok(Found { value: first, next });
     }
-    // Where the bytes before a tenth end, so that one test a byte is enough.
-    let end = s.len().min(next + MOST_BETWEEN);
+    // How many bytes stand before a tenth, so that one test a byte is enough.
+    let left = (s.len() - next).min(MOST_BETWEEN);
     let mut value = first - HIGH;
     let mut weight = HIGH;
-    for at in next..end {
-        let b = s[at] as u64;
+    for i in 0..left {
+        let b = s[next + i] as u64;
         if b < HIGH {
             return Ok(Found {
                 value: b * weight + value,
-                next: at + 1,
+                next: next + i + 1,
             });
         }
         value = (b - HIGH) * weight + value;
         weight = weight * HIGH;
     }
-    if s.len() <= end {
+    let tenth = next + left;
+    if s.len() <= tenth {
         return Err(Refusal::Cut);
     }
-    let b = s[end] as u64;
+    let b = s[tenth] as u64;
     if 1 < b {
         return Err(Refusal::TooLarge);
     }
     Ok(Found {
         value: b * weight + value,
-        next: end + 1,
+        next: tenth + 1,
     })
 }
 
@@ -78,7 +79,7 @@ pub fn write_number(value: u64, buffer: &mut [u8], place: usize) -> Result<usize
     ensures { WritesNumber value buffer.old place result buffer.new }
 {
     let length = number_length(value);
-    if buffer.len().saturating_sub(place) < length {
+    if buffer.len() < place || buffer.len() - place < length {
         return Err(Refusal::NoRoom);
     }
     let mut rest = value;

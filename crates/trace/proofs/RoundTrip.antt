@@ -50,10 +50,6 @@ parts : (e : Event) → event_bytes e ≡ number_bytes e.code ++ bytes_of (take 
 unfolding event_bytes bytes_of argument_count
 parts e = refl
 
--- one at least
-pub some_bytes : (e : Event) → known_in_trace e ≡ true → 0 < length (event_bytes e)
-some_bytes e k = rw (parts e) (omega (arith, length-append (number_bytes e.code) (bytes_of (take (length (arguments_of e.code)) (six_of e))), sized e.code (numbers_small e k 0)))
-
 module _ (e : Event) (k : known_in_trace e ≡ true) where
   abbrev count : ℕ
   count = length (arguments_of e.code)

@@ -153,7 +153,7 @@ pub fn write_event(e: Event, buffer: &mut [u8], place: usize) -> Result<usize, R
         return Err(Refusal::BadEvent);
     }
     let length = event_length(e);
-    if buffer.len().saturating_sub(place) < length {
+    if buffer.len() < place || buffer.len() - place < length {
         return Err(Refusal::NoRoom);
     }
     write_numbers(e, buffer, place);
