@@ -288,7 +288,8 @@ pub fn code_in_trace(code: u64) -> bool
 
 // Whether the first argument is in its range, and the event has no other.
 fn only_known(most: u64, e: Event) -> bool
-    ensures { result ≡ (leb e.first most && leb e.second 0 && leb e.third 0 && leb e.fourth 0 && leb e.fifth 0 && leb e.sixth 0) }
+    ensures { result ≡ (leb e.first most && leb e.second 0 && leb e.third 0
+        && leb e.fourth 0 && leb e.fifth 0 && leb e.sixth 0) }
 {
     (e.first <= most)
         & (e.second <= NONE)
