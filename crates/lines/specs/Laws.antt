@@ -32,7 +32,8 @@ pub record Determined : Type 1 where
   pub put_event :
       {S E : Type 0} (m : Listable S E) (b : S) (place : ℕ) (e : E) (next : Progress) (before : List ℕ) (at : ℕ)
       → DeterminesLent (PutsEvent m b place e next before at)
-  pub next_event : {S : Type 0} (n : Next S) (b : S) (before : List ℕ) (at : ℕ) → DeterminesLent (WritesNext n b before at)
+  pub next_event :
+      {S : Type 0} (n : Next S) (b : S) (before : List ℕ) (at : ℕ) → DeterminesLent (WritesNext n b before at)
   pub next_line :
       {S E : Type 0} (m : Listable S E) (s : List ℕ) (progress : Progress) (b : S) (before : List ℕ) (at : ℕ)
       → DeterminesLent (WritesLine m s progress b before at)
