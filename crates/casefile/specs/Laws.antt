@@ -6,7 +6,8 @@ use Rattle.output.specs.Laws.{SameUnlessLost, DeterminesUnlessLost}
 use Rattle.casefile.specs.Records.{phy_numbers, phy_of}
 use Rattle.casefile.specs.Window.{Place, none_ahead, enough_ahead, ahead_after}
 use Rattle.casefile.specs.Promises.{TakesNumber, TakesBytes, TakesNumbers, MakesPhy, GivesNumbers, MakesEvent}
-use Rattle.casefile.specs.Promises.{PutsPiece, PutsPieces, PutsRepeats, Slides, GoesOn, EndsWithin, TakesPieces, TakesAll}
+use Rattle.casefile.specs.Promises.{PutsPiece, PutsPieces, PutsRepeats, Slides, GoesOn}
+use Rattle.casefile.specs.Promises.{EndsWithin, TakesPieces, TakesAll}
 use Rattle.casefile.specs.declared.input.Input.{Input}
 use Rattle.casefile.specs.declared.Ahead.{Ahead}
 use Rattle.casefile.specs.declared.Turn.{Turn}
