@@ -204,7 +204,8 @@ pub data ShelfCalls : Reader → List (ReadOf ShelfEvent) → Reader → Type 0 
       → TakesShelf before r middle → ShelfCalls middle rs after → ShelfCalls before (r ∷ rs) after
 
 -- each later result is the same, its event is zero, and the reader is as it was
-pub record Stopped (before : Reader) (r : ReadOf ShelfEvent) (rs : List (ReadOf ShelfEvent)) (after : Reader) : Type 0 where
+pub record Stopped
+    (before : Reader) (r : ReadOf ShelfEvent) (rs : List (ReadOf ShelfEvent)) (after : Reader) : Type 0 where
   pub same : rs ≡ replicate (length rs) r
   pub zeros : shelf_given (tells_shelf r) ≡ zero_shelf
   pub stays : after ≡ before
@@ -217,7 +218,8 @@ StaysPut =
 
 -- k results are the first k events of a list that stands at a place, and the others stand from the reader's place on
 pub record FirstGiven
-    (s : List ℕ) (place : ℕ) (es : List ShelfEvent) (last : ℕ) (rs : List (ReadOf ShelfEvent)) (after : Reader) : Type 0 where
+    (s : List ℕ) (place : ℕ) (es : List ShelfEvent) (last : ℕ) (rs : List (ReadOf ShelfEvent)) (after : Reader)
+    : Type 0 where
   pub events : map (λ r. shelf_given (tells_shelf r)) rs ≡ take (length rs) es
   pub passed : ShelfPasses s place (take (length rs) es) after.place
   pub others : ShelfPasses s after.place (drop (length rs) es) last
