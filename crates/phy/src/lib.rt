@@ -40,10 +40,9 @@ pub struct Waited {
     pub part: u64,
 }
 
-// States and flags are numbers, since the record is the C interface's and a caller hands in any: `valid` tells which
-// records are states. The part of a millisecond
-// that the request has waited beyond its wait is kept in P2. Who opens us, and by which protocol, is kept
-// in L2; `farClosed` is a flag, that the far end has closed.
+// States and flags are numbers, since the record is the C interface's and a caller hands in any: `valid` tells
+// which records are states. The part of a millisecond that the request has waited beyond its wait is kept in
+// P2. Who opens us, and by which protocol, is kept in L2; `farClosed` is a flag, that the far end has closed.
 #[repr(C)]
 #[derive(Clone, Copy, Debug, PartialEq, Eq)]
 pub struct Phy {
