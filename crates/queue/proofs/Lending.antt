@@ -37,12 +37,10 @@ unfolding open_known arguments_known argument_range open_from
 zeros_unknown n = simp zero_at
 
 zeros_all : (n : ℕ) → all_zero (replicate n 0) ≡ true
-unfolding all_zero
 zeros_all zero = refl
 zeros_all (suc n) = zeros_all n
 
 all_zeros : (ns : List ℕ) → all_zero ns ≡ true → ns ≡ replicate (length ns) 0
-unfolding all_zero
 all_zeros [] e = refl
 all_zeros (n ∷ ns) e =
     let p = parts (eqb n 0) (all_zero ns) e in

@@ -2,20 +2,17 @@
 -- come behind them.
 use Prim.Native.Nat.{ℕ, suc, ◌+◌, ◌-◌, ◌*◌, ◌<◌}
 use mathlib.Core.List.{List, [], ◌∷◌, ◌++◌, append_assoc}
-use mathlib.Core.Path.{◌≡◌, refl, ap, ◌∙◌}
+use mathlib.Core.Path.{◌≡◌, refl, ◌∙◌}
 use native.Mathlib.Omega.{arith}
 use borrow.Author.Tests.{lt-ltb, le-leb, eq-eqb}
 use lib.ListN.{length, replicate, length-append, replicate-append-replicate}
 use lib.Seq.{take_at, drop_at, drop-drop}
+use Rattle.std.proofs.lemmas.Grind.{flat_map-append}
 use Rattle.event.specs.declared.Open.{Open}
 use Rattle.queue.specs.Lent.{most_waiting, numbers_each, lent_length, numbers_of, in_numbers, lent_as, open_from, joined, advanced}
 use Rattle.queue.specs.Laws.{JoinsLast, OldestFirst, MovesUp}
 use Rattle.queue.proofs.Places.{stored_over}
 use Rattle.queue.proofs.Lending.{numbers_long, lent_long}
-
-numbers_append : (os ps : List Open) → in_numbers (os ++ ps) ≡ in_numbers os ++ in_numbers ps
-numbers_append [] ps = refl
-numbers_append (o ∷ os) ps = ap (λ (l : List ℕ). numbers_of o ++ l) (numbers_append os ps)
 
 -- as many zeros as make the numbers whole
 with_zeros : (os : List Open) (n : ℕ) → length (in_numbers os) + n ≡ lent_length → lent_as os ≡ in_numbers os ++ replicate n 0
@@ -41,7 +38,7 @@ with_room os h =
 
 with_last : (os : List Open) (o : Open) → length os < most_waiting → lent_as (os ++ (o ∷ [])) ≡ in_numbers os ++ numbers_of o ++ zeros os
 with_last os o h =
-    let same : in_numbers (os ++ (o ∷ [])) ≡ in_numbers os ++ numbers_of o = numbers_append os (o ∷ []) in
+    let same : in_numbers (os ++ (o ∷ [])) ≡ in_numbers os ++ numbers_of o = flat_map-append numbers_of os (o ∷ []) in
     with_zeros (os ++ (o ∷ [])) (left os) (rw (same, length-append) (omega (arith, numbers_long os))) ∙ rw same
 
 pub joins_last : JoinsLast

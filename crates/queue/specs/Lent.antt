@@ -1,6 +1,7 @@
 -- The Opens that wait at a port, oldest first, lent as numbers: six for each Open in use, and behind them zeros.
-use Rattle.std.specs.Prelude.{ℕ, zero, suc, ◌-◌, ◌*◌, Bool, true, ◌&&◌, List, [], ◌∷◌, ◌++◌, eqb, leb, ltb}
+use Rattle.std.specs.Prelude.{ℕ, zero, suc, ◌-◌, ◌*◌, Bool, ◌&&◌, List, [], ◌∷◌, ◌++◌, eqb, leb, ltb}
 use Rattle.std.specs.Prelude.{length, get_or, take, drop, replicate}
+use Rattle.std.specs.List.{flat_map, list_all}
 use Rattle.std.proofs.lemmas.List.Edits.{sets}
 use Rattle.table.specs.Choice.{pick}
 use Rattle.event.specs.Table.{open_known}
@@ -28,8 +29,7 @@ numbers_of o = o.destination ∷ o.protocol ∷ o.rate ∷ o.tag ∷ o.blockedCo
 
 -- those of Opens one after the other
 abbrev pub in_numbers : List Open → List ℕ
-in_numbers [] = []
-in_numbers (o ∷ os) = numbers_of o ++ in_numbers os
+in_numbers os = flat_map numbers_of os
 
 -- Opens as they are lent: what is not in use is zero
 unfoldable pub lent_as : List Open → List ℕ
@@ -59,9 +59,8 @@ unfoldable pub queue_in : List ℕ → List Open
 queue_in ns = held_in most_waiting ns
 
 -- all these are zero
-unfoldable pub all_zero : List ℕ → Bool
-all_zero [] = true
-all_zero (n ∷ ns) = eqb n 0 && all_zero ns
+abbrev pub all_zero : List ℕ → Bool
+all_zero ns = list_all (λ n. eqb n 0) ns
 
 -- the numbers are as many as are lent, and those behind the Opens that wait are zero
 unfoldable pub good_lent : List ℕ → Bool
@@ -73,10 +72,6 @@ good_lent ns = eqb (length ns) lent_length && all_zero (drop (numbers_each * len
 unfoldable pub joined : List ℕ → (waiting : ℕ) → Open → List ℕ
 joined ns waiting o =
     pick (ltb waiting most_waiting && eqb (length ns) lent_length) (sets ns (numbers_each * waiting) (numbers_of o)) ns
-
--- so many numbers have moved up by one Open, and behind them stands what stood there
-abbrev pub moved_up : List ℕ → (count : ℕ) → List ℕ
-moved_up ns count = take count (drop numbers_each ns) ++ drop count ns
 
 -- the oldest of those that wait is gone and the others move up, where there is one
 unfoldable pub advanced : List ℕ → (waiting : ℕ) → List ℕ

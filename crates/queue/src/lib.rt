@@ -1,10 +1,10 @@
 // The Opens that wait at a port, oldest first, lent as numbers: six for each Open in use, in the order of
-// its fields, and behind them zeros.
+// its fields, and behind them zeros. They are numbers and no Opens, since C callers lend them.
 #![tactic(auto)]
 
 ghost use Rattle.std.specs.Prelude.{◌+◌, ◌≤◌, ◌≡◌, length, get_or, drop};
 ghost use Rattle.std.proofs.lemmas.List.Edits.{sets};
-ghost use Rattle.queue.specs.Lent.{numbers_each, lent_length, numbers_of, open_from, queue_in, all_zero, moved_up};
+ghost use Rattle.queue.specs.Lent.{most_waiting, lent_length, numbers_of, open_from, queue_in, all_zero};
 ghost use Rattle.queue.specs.Promises.{Judges, GivesOldest, Joins, Advances};
 
 use event::Open;
@@ -18,17 +18,8 @@ const NUMBERS_EACH: usize = 6;
 // So many numbers are lent.
 pub const LENGTH: usize = 192;
 
-// What stands where no Open waits.
-const NO_OPEN: Open = Open {
-    destination: 0,
-    protocol: 0,
-    rate: 0,
-    tag: 0,
-    blockedCount: 0,
-    wait: 0,
-};
-
-// Whether numbers are Opens as they are lent, and how many of these wait.
+// Whether numbers are Opens as they are lent, and how many of these wait. No Option: `Judges` settles how many
+// wait by numbers that are not good too, and a port that is refused is reported with them.
 #[derive(Clone, Copy)]
 pub struct Judgement {
     pub good: bool,
@@ -39,7 +30,7 @@ pub struct Judgement {
 fn number_at(queue: &[u64], at: usize) -> u64
     ensures { result ≡ get_or queue.now at 0 }
 {
-    if at < queue.len() { queue[at] } else { 0 }
+    queue.get(at).copied().unwrap_or(0)
 }
 
 // The Open at a place.
@@ -59,33 +50,22 @@ fn open_at(queue: &[u64], at: usize) -> Open
 
 // How many Opens wait: those in front up to the first that is not known.
 fn count_waiting(queue: &[u64]) -> u64
-    ensures { result ≡ length (queue_in queue.now) }
+    ensures counted { result ≡ length (queue_in queue.now) }
+    ensures few { result ≤ most_waiting }
 {
-    let mut waiting: u64 = 0;
-    let mut at: usize = 0;
-    while waiting < MOST_WAITING {
-        if event::open_known(open_at(queue, at)) {
-            waiting += 1;
-            at += NUMBERS_EACH;
-        } else {
+    for waiting in 0..MOST_WAITING {
+        if !event::open_known(open_at(queue, NUMBERS_EACH * waiting as usize)) {
             return waiting;
         }
     }
-    waiting
+    MOST_WAITING
 }
 
-// Whether all numbers from a place on are zero.
-fn all_zero(queue: &[u64], from: usize) -> bool
-    ensures { result ≡ all_zero (drop from queue.now) }
+// Whether numbers are all zero.
+fn all_zero(numbers: &[u64]) -> bool
+    ensures { result ≡ all_zero numbers.now }
 {
-    let mut i = from;
-    while i < queue.len() {
-        if queue[i] != 0 {
-            return false;
-        }
-        i += 1;
-    }
-    true
+    numbers.iter().all(|&n| n == 0)
 }
 
 // Judges numbers of any length, before they are used.
@@ -93,7 +73,7 @@ pub fn judged(queue: &[u64]) -> Judgement
     ensures { Judges queue.now result }
 {
     let waiting = count_waiting(queue);
-    let good = (queue.len() == LENGTH) & all_zero(queue, NUMBERS_EACH * waiting as usize);
+    let good = (queue.len() == LENGTH) && all_zero(&queue[NUMBERS_EACH * waiting as usize..]);
     Judgement { good, waiting }
 }
 
@@ -104,17 +84,18 @@ pub fn oldest(queue: &[u64]) -> Open
     open_at(queue, 0)
 }
 
-// Stores an Open at a place.
-fn put_open(queue: &mut [u64], at: usize, open: Open)
-    requires { at + numbers_each ≤ length queue.old }
-    ensures { queue.new ≡ sets queue.old at (numbers_of «open») }
+// The numbers of an Open, in the order of its fields.
+fn numbers_of(open: Open) -> [u64; NUMBERS_EACH]
+    ensures { result ≡ numbers_of «open» }
 {
-    queue[at] = open.destination;
-    queue[at + 1] = open.protocol;
-    queue[at + 2] = open.rate;
-    queue[at + 3] = open.tag;
-    queue[at + 4] = open.blockedCount;
-    queue[at + 5] = open.wait;
+    [
+        open.destination,
+        open.protocol,
+        open.rate,
+        open.tag,
+        open.blockedCount,
+        open.wait,
+    ]
 }
 
 // One Open more behind those that wait; without room nothing changes.
@@ -122,19 +103,8 @@ pub fn join(queue: &mut [u64], waiting: u64, open: Open)
     ensures { Joins queue.old waiting «open» queue.new }
 {
     if (waiting < MOST_WAITING) & (queue.len() == LENGTH) {
-        put_open(queue, NUMBERS_EACH * waiting as usize, open);
-    }
-}
-
-// Moves so many numbers up by one Open.
-fn move_up(queue: &mut [u64], count: usize)
-    requires { count + numbers_each ≤ length queue.old }
-    ensures { queue.new ≡ moved_up queue.old count }
-{
-    let mut i = 0;
-    while i < count {
-        queue[i] = queue[i + NUMBERS_EACH];
-        i += 1;
+        let at = NUMBERS_EACH * waiting as usize;
+        queue[at..at + NUMBERS_EACH].copy_from_slice(&numbers_of(open));
     }
 }
 
@@ -143,8 +113,8 @@ pub fn advance(queue: &mut [u64], waiting: u64)
     ensures { Advances queue.old waiting queue.new }
 {
     if (1 <= waiting) & (waiting <= MOST_WAITING) & (queue.len() == LENGTH) {
-        let kept = NUMBERS_EACH * (waiting - 1) as usize;
-        move_up(queue, kept);
-        put_open(queue, kept, NO_OPEN);
+        let used = NUMBERS_EACH * waiting as usize;
+        queue.copy_within(NUMBERS_EACH..used, 0);
+        queue[used - NUMBERS_EACH..used].fill(0);
     }
 }

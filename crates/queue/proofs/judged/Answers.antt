@@ -1,13 +1,16 @@
 -- `queue::judged` meets its contract: both tests are the definition's.
-use native.Mathlib.Omega.{arith}
-use Rattle.queue.specs.Lent.{good_lent}
-use Rattle.queue.proofs.Held.{held_known}
+use Rattle.std.proofs.Common.{length, ◌≡◌, ◌∙◌}
+use Rattle.queue.specs.Lent.{queue_in}
+use Rattle.queue.proofs.Places.{good_long, good_not}
 use Rattle.queue.proofs.judged.Goals as goal
 
-pub overflow_mul-waiting : goal.overflow_mul-waiting
-unfolding good_lent
-overflow_mul-waiting c = omega (arith, c.count_waiting-waiting.ensures, (held_known c.args.queue.now).few)
+pub returns-then-queue-eq-LENGTH : goal.returns-then-queue-eq-LENGTH
+returns-then-queue-eq-LENGTH c =
+    let n : c.count_waiting-waiting.result ≡ length (queue_in c.args.queue.now) = c.count_waiting-waiting.ensures.counted in
+    let g = c.all_zero-good.ensures ∙ good_long c.args.queue.now _ c.if-queue-eq-LENGTH.true n in
+    cc
 
-pub returns : goal.returns
-unfolding good_lent
-returns c = simp (c.all_zero.ensures, c.count_waiting-waiting.ensures)
+pub returns-else-queue-eq-LENGTH : goal.returns-else-queue-eq-LENGTH
+returns-else-queue-eq-LENGTH c =
+    let g = good_not c.args.queue.now c.if-queue-eq-LENGTH.false in
+    cc c.count_waiting-waiting.ensures.counted
