@@ -1,6 +1,7 @@
 -- How the code takes an event: it carries where the port stands, and an event concerns one record at most. What a step
 -- is stands in Step alone; here is what the code's own functions promise each other.
-use Rattle.std.specs.Prelude.{ℕ, ◌+◌, ◌-◌, ◌^◌, Bool, true, false, ◌&&◌, ◌||◌, List, [], ◌∷◌, eqb, ltb, length}
+use Rattle.std.specs.Prelude.{ℕ, ◌+◌, ◌-◌, ◌^◌, Bool, true, false, ◌&&◌, ◌||◌, List, eqb, ltb, length}
+use Rattle.std.specs.List.{fold}
 use Rattle.std.specs.Int.Bits.{bit_or, bit_xor}
 use Rattle.std.specs.Int.Count.{ones, count_trailing_zeros}
 use Rattle.table.specs.Choice.{pick}
@@ -42,8 +43,7 @@ noted_of s b =
 
 -- all records of a row, one after the other
 unfoldable pub scanned : Scan → List Bay → Scan
-scanned s [] = s
-scanned s (b ∷ bs) = scanned (noted_of s b) bs
+scanned s bs = fold noted_of s bs
 
 -- ---- where a port stands
 

@@ -2,6 +2,7 @@
 // row, any queue, any number and any event, and ends.
 #![tactic(auto)]
 
+mod free;
 mod row;
 mod state;
 mod taking;

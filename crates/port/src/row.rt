@@ -1,39 +1,37 @@
 // The row of bays, lent: one record is read, one is put, and each is noted once. The rules stand elsewhere.
-ghost use Rattle.std.specs.Prelude.{◌≡◌, set, get_or};
+ghost use Rattle.std.specs.Prelude.{◌≡◌, set};
+ghost use Rattle.port.specs.Step.{bay_at};
 ghost use Rattle.port.specs.Promises.{Surveys, Steps};
 
-use crate::state::{begun, noted, planned, target};
+use crate::state::{begun, planned};
+use crate::taking::concerned;
 use crate::{Scan, Stepped};
 use bay::Bay;
 use event::Event;
 
-// The record at a place; past the end another one.
-pub(crate) fn record_at(row: &[Bay], i: usize, other: Bay) -> Bay
-    ensures { result ≡ get_or row.now i other }
+// The record at a place; past the end a fresh one.
+fn record_at(row: &[Bay], at: usize) -> Bay
+    ensures { result ≡ bay_at row.now at }
 {
-    if i < row.len() { row[i] } else { other }
+    row.get(at).copied().unwrap_or_else(|| bay::fresh())
 }
 
-// One record is put, and every other is left; past the end nothing changes.
-pub(crate) fn put_record(row: &mut [Bay], i: usize, bay: Bay)
-    ensures { row.new ≡ set row.old i bay }
+// One record is put, and every other is left; past the end nothing changes. It is put by its index: of a slice
+// that was written through `get_mut` a proof knows the length alone, and `Steps` speaks of every record.
+fn put_record(row: &mut [Bay], at: usize, bay: Bay)
+    ensures { row.new ≡ set row.old at bay }
 {
-    if i < row.len() {
-        row[i] = bay;
+    if at < row.len() {
+        row[at] = bay;
     }
 }
 
-// Each record is noted once, from what was gathered before.
+// Each record is noted once, after what was gathered before.
+#[tactic(auto, unfolding(crate::specs::Stages::scanned))]
 pub fn survey(row: &[Bay], from: Scan) -> Scan
     ensures { Surveys row.now from result }
 {
-    let mut scan = from;
-    let mut i = 0;
-    while i < row.len() {
-        scan = noted(scan, row[i]);
-        i += 1;
-    }
-    scan
+    row.iter().fold(from, |scan, &bay| scan.noted(bay))
 }
 
 // Any row, queue, number and event. An event concerns one record at most, and that alone is put.
@@ -41,8 +39,8 @@ pub fn step(row: &mut [Bay], queue: &mut [u64], number: u64, event: Event) -> St
     ensures { Steps row.old queue.old number event result row.new queue.new }
 {
     let scan = survey(row, begun());
-    let at = target(scan, number);
-    let own = record_at(row, at, bay::fresh());
+    let at = concerned(scan.free, number);
+    let own = record_at(row, at);
     let taken = planned(scan, own, queue, number, event);
     put_record(row, at, taken.bay);
     taken.stepped

@@ -4,5 +4,5 @@ use Rattle.port.proofs.row.step.Goals as goal
 
 pub returns : goal.returns
 returns c =
-    rw (c.put_record.ensures, c.planned-taken.ensures.0, c.planned-taken.ensures.1, c.record_at-own.ensures, c.target-at.ensures, c.survey-scan.ensures, c.begun.ensures, c.fresh.ensures)
+    rw (c.put_record.ensures, c.planned-taken.ensures.0, c.planned-taken.ensures.1, c.record_at-own.ensures, c.concerned-at.ensures, c.survey-scan.ensures, c.begun.ensures)
     (in_place c.args.row.now c.args.queue.now c.args.number c.args.event)

@@ -5,7 +5,7 @@ use Rattle.port.proofs.taking.concerned.Goals as goal
 
 pub returns-then-number-eq-THE_PORT : goal.returns-then-number-eq-THE_PORT
 unfolding concerned
-returns-then-number-eq-THE_PORT c = simp (c.lowest_in.ensures.0, eq-eqb _ _ c.if-number-eq-THE_PORT.true)
+returns-then-number-eq-THE_PORT c = simp (c.lowest_in.ensures, eq-eqb _ _ c.if-number-eq-THE_PORT.true)
 
 pub returns : goal.returns
 unfolding concerned
