@@ -14,8 +14,8 @@ whole count xs ys f b = sym (take-append-drop (shown count) xs) ∙ (λ i. f i +
 pub determined : Determined
 determined =
     record {
-      fresh_row = by_equation _;
-      step_row = λ bays count queue number e r q after later x y.
-          let same : r.row.bays ≡ q.row.bays = whole count _ _ (x.steps.row_left ∙ sym y.steps.row_left) (x.others ∙ sym y.others) in
-          (λ i. record { row = record { bays = same i }; stepped = (x.steps.says ∙ sym y.steps.says) i }, x.steps.queue_left ∙ sym y.steps.queue_left);
+      fresh = by_equation _;
+      step = λ bays count queue number e r q left later x y.
+          let same : left.0 ≡ later.0 = whole count _ _ (x.steps.row_left ∙ sym y.steps.row_left) (x.others ∙ sym y.others) in
+          (x.steps.says ∙ sym y.steps.says, λ i. (same i, (x.steps.queue_left ∙ sym y.steps.queue_left) i));
     }
