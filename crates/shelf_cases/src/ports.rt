@@ -4,7 +4,7 @@ ghost use Rattle.held.specs.Rows.{most_held};
 
 use bay::Bay;
 use casefile::{PHY_NUMBERS, phy_numbers, phy_of, take, take_many};
-use held::{MOST_HELD, Row, fresh_row};
+use held::{MOST_HELD, Row};
 use output::{end_line, put_line, put_more, put_numbers};
 
 // One more than a queue may have.
@@ -64,7 +64,7 @@ fn take_row(s: &[u8], place: usize, count: usize) -> RowTaken
     requires { count ≤ most_held }
     ensures { result.next ≤ max place (length s.now) }
 {
-    let mut row = fresh_row();
+    let mut row = Row::fresh();
     let mut next = place;
     let mut i = 0;
     while i < count {

@@ -4,7 +4,7 @@ ghost use Rattle.casefile.specs.Promises.{EndsWithin};
 
 use crate::ports::{MOST_QUEUE, PortTaken, put_port, take_port};
 use casefile::{EVENT_NUMBERS, Place, event_of, take, take_many};
-use held::{Row, step_row};
+use held::Row;
 use output::{end_line, put_more, put_numbers};
 use port::Stepped;
 
@@ -72,12 +72,12 @@ fn one_event(
     let number = take(s, walk.next);
     let mut item = [0u64; EVENT_NUMBERS];
     let next = take_many(s, number.next, &mut item);
-    let r = step_row(walk.row, count, queue, number.value, event_of(item));
-    let row = r.row;
+    let mut row = walk.row;
+    let stepped = row.step(count, queue, number.value, event_of(item));
     Walk {
         row,
         next,
-        n: put_stepped(rt, out, walk.n, kind, r.stepped),
+        n: put_stepped(rt, out, walk.n, kind, stepped),
     }
 }
 

@@ -13,7 +13,7 @@ ghost use Rattle.shelf_listing.specs.Promises.{Freshly, Turns, Puts, WritesLine}
 
 use event::ShelfEvent;
 use event_line::{columns_of, put_event, states_at};
-use held::{Row, fresh_row, step_row};
+use held::Row;
 use lines::{LineWritten, Progress, put_end, put_line, put_stop, put_too_long};
 use shelf::ShelfRead;
 
@@ -66,7 +66,7 @@ pub fn fresh(phys: usize) -> Shelf
     ensures { Freshly phys result }
 {
     Shelf {
-        row: fresh_row(),
+        row: Row::fresh(),
         phys,
         queue: [0; queue::LENGTH],
     }
@@ -77,10 +77,9 @@ fn turned(shelf: Shelf, event: ShelfEvent) -> Turn
 {
     let number = event.number;
     let phys = shelf.phys;
+    let mut row = shelf.row;
     let mut queue = shelf.queue;
-    let r = step_row(shelf.row, phys, &mut queue, number, event.event);
-    let row = r.row;
-    let stepped = r.stepped;
+    let stepped = row.step(phys, &mut queue, number, event.event);
     let held = queue::judged(&queue);
     let states = states_at(row, phys, number);
     Turn {
