@@ -11,12 +11,10 @@ ghost use Rattle.port.specs.Promises.{Concerns, Takes};
 use crate::free::{PhyNumber, free_after, lowest_free, lowest_in, some_free};
 use crate::state::is_free;
 use crate::{MOST_PHYS, Reports, Standing, Stepped, THE_PORT, Taken};
-use bay::{Bay, Report};
+use bay::{Bay, NO_REPORT};
 use event::{Event, NO_OPEN, Open, TX_OPEN};
 use queue::MOST_WAITING;
 use table::Refusal;
-
-const NO_REPORT: Report = Report { code: 0, tick: 0 };
 
 // The place of the record that an event concerns: to the port, that of the lowest free phy.
 pub fn concerned(free: u64, number: u64) -> usize

@@ -20,7 +20,7 @@ pub const LENGTH: usize = 192;
 
 // Whether numbers are Opens as they are lent, and how many of these wait. No Option: `Judges` settles how many
 // wait by numbers that are not good too, and a port that is refused is reported with them.
-#[derive(Clone, Copy)]
+#[derive(Clone, Copy, Debug, PartialEq, Eq)]
 pub struct Judgement {
     pub good: bool,
     pub waiting: u64,
