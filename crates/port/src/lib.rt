@@ -20,7 +20,8 @@ pub const MOST_PHYS: usize = 8;
 pub const THE_PORT: u64 = 127;
 
 // What an event reports: an answer with the arguments of its Open, at most two notices, a primitive sent,
-// each with its tick, and the number of a refusal; each 0 where there is none.
+// each with its tick, and the number of a refusal; each 0 where there is none. No Options: the record is the C
+// interface's.
 #[repr(C)]
 #[derive(Clone, Copy, Debug, PartialEq, Eq)]
 pub struct Reports {
@@ -33,7 +34,7 @@ pub struct Reports {
 }
 
 // What a step gives: the event's own reports, the phy that then received an Open, 127 where none did, and
-// what that phy sent.
+// what that phy sent. No Option: the record is the C interface's.
 #[repr(C)]
 #[derive(Clone, Copy, Debug, PartialEq, Eq)]
 pub struct Stepped {
@@ -42,7 +43,8 @@ pub struct Stepped {
     pub handedSent: u64,
 }
 
-// What a survey of the row gathers: how many records, which are free, and whether all are valid.
+// What a survey of the row gathers: how many records, which are free, and whether all are valid. No Option:
+// `Surveys` settles how many and which by a row that is not valid too.
 #[derive(Clone, Copy, Debug, PartialEq, Eq)]
 pub struct Scan {
     pub count: u64,
@@ -58,7 +60,8 @@ pub struct Standing {
     pub waiting: u64,
 }
 
-// Whether a port is valid, and where it stands.
+// Whether a port is valid, and where it stands. No Option: `Judges` settles where a port stands that is not valid
+// too, and what it refuses is reported with that.
 #[derive(Clone, Copy, Debug, PartialEq, Eq)]
 pub struct Judged {
     pub valid: bool,

@@ -16,8 +16,7 @@ use table::Refusal;
 pub(crate) fn is_free(bay: Bay) -> bool
     ensures { result ≡ is_free bay }
 {
-    let phy = bay.phy;
-    (phy.link == phy::L0) & (phy.port == phy::P1)
+    (bay.phy.link == phy::L0) & (bay.phy.port == phy::P1)
 }
 
 pub fn begun() -> Scan
