@@ -34,7 +34,8 @@ pub struct Report {
 }
 
 // What a step gives: the bay, an answer with the arguments of its Open, at most two notices, a primitive
-// sent, each with its tick, and the number of a refusal; each 0 where there is none.
+// sent, each with its tick, and the number of a refusal; each 0 where there is
+// none: numbers and no Option, since the record is the C interface's.
 #[repr(C)]
 #[derive(Clone, Copy, Debug, PartialEq, Eq)]
 pub struct Stepped {

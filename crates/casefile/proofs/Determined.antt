@@ -1,7 +1,7 @@
 -- Each contract equates the result, and what is left, with a definition of what was given, so two that it allows coincide.
-use mathlib.Core.Path.{refl}
+use mathlib.Core.Path.{refl, sym, ◌∙◌}
 use Rattle.table.proofs.Results.{by_equation, by_result, by_result_lent}
-use Rattle.output.proofs.Determined.{determined as output-determined}
+use Rattle.output.proofs.Determined.{after_writes, determined as output-determined}
 use Rattle.casefile.specs.Pieces.{pairs_after}
 use Rattle.casefile.specs.Laws.{Determined, PhyBack}
 use Rattle.casefile.proofs.Sliding.{case_determined}
@@ -26,6 +26,9 @@ determined =
       });
       put_repeats = λ kind bytes. output-determined.put_line kind (pairs_after 0 bytes);
       next_case = case_determined;
+      take_case = λ old new later a b. a.same_file ∙ sym b.same_file;
+      list_case = λ old new later a b i. record { s = (a.ends.same_file ∙ sym b.ends.same_file) i; place = (a.there ∙ sym b.there) i };
+      take_all = λ r q. after_writes;
     }
 
 pub phy_back : PhyBack

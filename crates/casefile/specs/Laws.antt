@@ -2,11 +2,13 @@
 use Rattle.std.specs.Prelude.{ℕ, Bool, true, ◌||◌, List, ◌≡◌, length, take}
 use Rattle.std.proofs.Math.Seq.{slice}
 use Rattle.table.specs.Results.{Determines, DeterminesLent}
-use Rattle.output.specs.Laws.{DeterminesUnlessLost}
+use Rattle.output.specs.Laws.{SameUnlessLost, DeterminesUnlessLost}
 use Rattle.casefile.specs.Records.{phy_numbers, phy_of}
 use Rattle.casefile.specs.Window.{Place, none_ahead, enough_ahead, ahead_after}
 use Rattle.casefile.specs.Promises.{TakesNumber, TakesBytes, TakesNumbers, MakesPhy, GivesNumbers, MakesEvent}
 use Rattle.casefile.specs.Promises.{TakesArray, PutsPiece, PutsPieces, PutsRepeats, Slides, GoesOn}
+use Rattle.casefile.specs.Promises.{EndsWithin, TakesPieces, TakesAll}
+use Rattle.casefile.specs.declared.input.Input.{Input}
 use Rattle.casefile.specs.declared.Ahead.{Ahead}
 use Rattle.casefile.specs.declared.Turn.{Turn}
 use Rattle.phy.specs.declared.Phy.{Phy}
@@ -35,6 +37,9 @@ pub record Determined : Type 0 where
       (before : List ℕ) (turn : Turn) (at : Place)
       → none_ahead before (ahead_after turn at) || enough_ahead before (ahead_after turn at) ≡ true
       → DeterminesLent (GoesOn before turn at)
+  pub take_case : (old new later : Input) → EndsWithin old new → EndsWithin old later → new.s ≡ later.s
+  pub list_case : (old new later : Input) → TakesPieces old new → TakesPieces old later → new ≡ later
+  pub take_all : (r q : ℕ) → TakesAll r → TakesAll q → SameUnlessLost r q
 
 -- ---- the window (proofs/Sliding)
 

@@ -113,6 +113,11 @@ pub record EndsWithin (old new : Input) : Type 0 where
   pub within : new.place ≤ length old.s.now
   pub same_file : new.s ≡ old.s
 
+-- `list_case`, which takes the pieces at a place: it ends behind them, within the file
+pub record TakesPieces (old new : Input) : Type 0 where
+  pub ends : EndsWithin old new
+  pub there : new.place ≡ place_behind (taken old.s.now old.place).value old.s.now (taken old.s.now old.place).next
+
 -- `take_all`, after which a text goes on at r: nothing stays gathered, or a write failed
 abbrev pub TakesAll : (r : ℕ) → Type 0
 TakesAll r = (r ≡ 0) ⊎ (r ≡ lost)

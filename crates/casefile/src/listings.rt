@@ -1,5 +1,5 @@
 // Cases of listings: the lister's own lines, with nothing before them.
-ghost use Rattle.casefile.specs.Promises.{EndsWithin};
+ghost use Rattle.casefile.specs.Promises.{TakesPieces};
 
 use crate::{BUFFER, Input, put_pieces};
 use lines::{Listing, MOST_TRACE, Written};
@@ -39,7 +39,7 @@ pub fn list_case<L: Listing>(
     input: &mut Input,
     text: &mut Text,
 )
-    ensures { EndsWithin input.old input.new }
+    ensures { TakesPieces input.old input.new }
 {
     let mut room = [0u8; BUFFER];
     let mut trace = Text::new(&mut room);

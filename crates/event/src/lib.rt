@@ -17,7 +17,8 @@ pub const SMP: u64 = 0;
 
 pub const STP: u64 = 2;
 
-// Events.
+// Events: numbers, as the C interface and the traces have them. The choices below are asked of any number, also of
+// one that `Code` does not name.
 pub const TX_OPEN: u64 = 1;
 
 pub const CANCEL_OPEN: u64 = 2;

@@ -12,8 +12,7 @@ use Rattle.held.specs.declared.Row.{Row}
 abbrev pub FreshRow : Row → Type 0
 FreshRow r = r ≡ record { bays = replicate most_held fresh_bay }
 
--- `step` of any row and any count, which leaves the bays as `left` and the queue as `after`: the port in front steps, and
--- what is behind it stays
+-- `step` of any row and any count, which leaves its bays as `left`: the port in front steps, what is behind it stays
 pub record StepsRow (bays : List Bay) (count : ℕ) (before : List ℕ) (number : ℕ) (e : Event) (r : Stepped)
     (left : List Bay) (after : List ℕ) : Type 0
   where

@@ -10,7 +10,7 @@ use port::Stepped;
 // One more than a port may have, so that a port of too many can be held too.
 pub const MOST_HELD: usize = port::MOST_PHYS + 1;
 
-#[derive(Clone, Copy)]
+#[derive(Clone, Copy, Debug, PartialEq, Eq)]
 pub struct Row {
     pub bays: [Bay; MOST_HELD],
 }

@@ -8,6 +8,7 @@ use Rattle.lines.specs.Listing.{Next, line_of, no_line, start_of, line_at}
 use Rattle.lines.specs.Promises.{StartsListing, Answer, wrote, finished, refused}
 use Rattle.lines.specs.Promises.{tells_written, PutsLine, PutsShort}
 use Rattle.lines.specs.Promises.{PutsColumns, PutsEnd, PutsStop, PutsTooLong}
+use Rattle.lines.specs.Promises.{GivesHeader, ReadsAt, PutsEvent, WritesNext, WritesLine}
 use Rattle.lines.specs.Promises.{bytes_of, write_next, buffer_after, state_after, PutsNext, moved_on}
 use Rattle.lines.specs.declared.Progress.{Progress}
 use Rattle.lines.specs.declared.Progress.TheVariants.{Header, Events, TooLong, Done}
@@ -15,7 +16,7 @@ use Rattle.lines.specs.declared.Progress.TheVariants.{Header, Events, TooLong, D
 -- ---- results are determined (proofs/Determined)
 
 -- each result says one thing; two that a function may give coincide, as do the buffers that it may leave
-pub record Determined : Type 0 where
+pub record Determined : Type 1 where
   pub written_once : TellsOnce tells_written
   pub start : (length : ℕ) → Determines (StartsListing length)
   pub put_line :
@@ -26,6 +27,16 @@ pub record Determined : Type 0 where
   pub put_end : (place count : ℕ) (before : List ℕ) (at : ℕ) → DeterminesLent (PutsEnd place count before at)
   pub put_stop : (place refusal : ℕ) (before : List ℕ) (at : ℕ) → DeterminesLent (PutsStop place refusal before at)
   pub put_too_long : (before : List ℕ) (at : ℕ) → DeterminesLent (PutsTooLong before at)
+  pub header : {S E : Type 0} (m : Listable S E) → Determines (GivesHeader m)
+  pub read : {S E : Type 0} (m : Listable S E) (s : List ℕ) (place : ℕ) → Determines (ReadsAt m s place)
+  pub put_event :
+      {S E : Type 0} (m : Listable S E) (b : S) (place : ℕ) (e : E) (next : Progress) (before : List ℕ) (at : ℕ)
+      → DeterminesLent (PutsEvent m b place e next before at)
+  pub next_event :
+      {S : Type 0} (n : Next S) (b : S) (before : List ℕ) (at : ℕ) → DeterminesLent (WritesNext n b before at)
+  pub next_line :
+      {S E : Type 0} (m : Listable S E) (s : List ℕ) (progress : Progress) (b : S) (before : List ℕ) (at : ℕ)
+      → DeterminesLent (WritesLine m s progress b before at)
 
 -- the same of a function that writes what comes next: result, state and buffer
 abbrev pub NextDetermined : {S : Type 0} → Next S → Type 0

@@ -1,5 +1,6 @@
 -- What the lister's functions say of its input and, by its outcome, of the trace that it listed.
-use Rattle.std.specs.Prelude.{ℕ, suc, ◌+◌, ◌-◌, ◌*◌, Bool, true, false, ◌&&◌, List, [], ◌∷◌, ◌⊎◌, ◌≡◌, Option, Some, None, eqb, leb}
+use Rattle.std.specs.Prelude.{ℕ, suc, ◌+◌, ◌-◌, ◌*◌, Bool, true, false, ◌&&◌, List, [], ◌∷◌, ◌⊎◌, ◌≡◌, eqb, leb}
+use Rattle.std.specs.Prelude.{Option, Some, None}
 use Rattle.table.specs.Choice.{pick}
 use Rattle.output.specs.Decimal.{digit}
 use Rattle.output.specs.Writing.{lost}

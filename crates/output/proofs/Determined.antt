@@ -13,7 +13,7 @@ use Rattle.output.specs.Writing.{newline, more_of, numbers_text, line, reached, 
 use Rattle.output.specs.Promises.{Puts, WritesOut, PutsLine}
 use Rattle.output.specs.Laws.{SameUnlessLost, DeterminesUnlessLost, Determined}
 
-after_writes : {r q : ℕ} → (r ≡ 0) ⊎ (r ≡ lost) → (q ≡ 0) ⊎ (q ≡ lost) → SameUnlessLost r q
+pub after_writes : {r q : ℕ} → (r ≡ 0) ⊎ (r ≡ lost) → (q ≡ 0) ⊎ (q ≡ lost) → SameUnlessLost r q
 after_writes (inl e) (inl h) = inl (e ∙ sym h)
 after_writes (inl e) (inr h) = inr (inr h)
 after_writes (inr e) h = inr (inl e)
@@ -33,6 +33,8 @@ ends_line bytes before n r q after later a b =
 pub determined : Determined
 determined =
     record {
+      new = λ buffer r q a b. (a.same_bytes ∙ sym b.same_bytes, a.start ∙ sym b.start);
+      number = λ value v. by_equation _;
       bytes = λ buffer n. by_equation _;
       put_all = λ bytes before n. by_result_lent (λ r q e. e) (λ r after a. record { says = a.puts.there; leaves = a.puts.stored });
       put_more = λ value numbers. puts (more_of value numbers);

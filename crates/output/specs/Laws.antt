@@ -1,9 +1,11 @@
 -- What is promised of the functions beyond the contracts. A heading names the file of proofs/.
 use Rattle.std.specs.Prelude.{ℕ, ◌≤◌, List, ◌⊎◌, ◌≡◌, length}
+use Rattle.std.specs.Borrow.{MutBor}
 use Rattle.table.specs.Results.{Determines, DeterminesLent}
 use Rattle.output.specs.Writing.{lost}
-use Rattle.output.specs.Promises.{ShowsBytes, Puts, PutsAll, PutsMore, PutsNumbers, WritesOut, TellsLost, PutsLine, EndsLine}
-use Rattle.output.specs.Promises.{PutsNumbersLine, Loses, ReadsInto}
+use Rattle.output.specs.Promises.{StartsText, TellsValue, ShowsBytes, Puts, PutsAll, PutsMore, PutsNumbers, WritesOut}
+use Rattle.output.specs.Promises.{TellsLost, PutsLine, EndsLine, PutsNumbersLine, Loses, ReadsInto}
+use Rattle.output.specs.declared.Text.{Text}
 
 -- ---- results are determined (proofs/Determined)
 
@@ -19,6 +21,10 @@ DeterminesUnlessLost Contract =
 -- two results that a function may give coincide, and so do the buffers that it may leave; of `read_full` where there is
 -- no room, since nothing is read
 pub record Determined : Type 1 where
+  pub new :
+      (buffer : MutBor (List ℕ)) (r q : Text) → StartsText buffer r → StartsText buffer q
+      → (r.out.now ≡ q.out.now) × (r.n ≡ q.n)
+  pub number : {T : Type 0} (value : T → ℕ) (v : T) → Determines (TellsValue value v)
   pub bytes : (buffer : List ℕ) (n : ℕ) → Determines (ShowsBytes buffer n)
   pub put_all : (bytes before : List ℕ) (n : ℕ) → DeterminesLent (PutsAll bytes before n)
   pub put_more :

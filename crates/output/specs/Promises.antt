@@ -1,6 +1,7 @@
 -- What each function promises, cited by its `ensures` and, of the public ones, by `Determined` in Laws.
 use Rattle.std.specs.Prelude.{ℕ, ◌≤◌, Bool, List, [], ◌∷◌, ◌⊎◌, ◌≡◌, eqb, length, take}
 use Rattle.std.proofs.lemmas.List.Edits.{sets}
+use Rattle.std.specs.Borrow.{MutBor}
 use Rattle.table.specs.Choice.{pick}
 use Rattle.output.specs.Writing.{newline, more_of, numbers_text, line, reached, gathered, lost, stays_gathered}
 use Rattle.output.specs.declared.Text.{Text}
@@ -9,6 +10,16 @@ use Rattle.output.specs.declared.Text.{Text}
 pub record Extends (Contract : (before : List ℕ) (n r : ℕ) (after : List ℕ) → Type 0) (old new : Text) : Type 0 where
   pub puts : Contract old.out.now old.n new.n new.out.now
   pub same_buffer : new.out.ghost_name ≡ old.out.ghost_name
+
+-- `new` of a buffer: a text that begins at its start
+pub record StartsText (buffer : MutBor (List ℕ)) (r : Text) : Type 0 where
+  pub same_buffer : r.out.ghost_name ≡ buffer.ghost_name
+  pub same_bytes : r.out.now ≡ buffer.now
+  pub start : r.n ≡ 0
+
+-- `number` of a thing that has a value
+abbrev pub TellsValue : {T : Type 0} (value : T → ℕ) → T → (r : ℕ) → Type 0
+TellsValue value v r = r ≡ value v
 
 -- `bytes` of a text that goes on at n in a buffer
 abbrev pub ShowsBytes : (buffer : List ℕ) (n : ℕ) (r : List ℕ) → Type 0

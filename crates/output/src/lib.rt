@@ -4,7 +4,7 @@
 ghost use Rattle.std.specs.Prelude.{ℕ, [], ◌⊎◌, ◌∷◌, ◌≡◌};
 ghost use Rattle.output.specs.Decimal.{decimal};
 ghost use Rattle.output.specs.Writing.{further, lost};
-ghost use Rattle.output.specs.Promises.{Extends, ShowsBytes, Puts, PutsAll, PutsMore, PutsNumbers};
+ghost use Rattle.output.specs.Promises.{Extends, StartsText, TellsValue, ShowsBytes, Puts, PutsAll, PutsMore, PutsNumbers};
 ghost use Rattle.output.specs.Promises.{GoesOut, TellsLost, EndsLine, PutsNumbersLine};
 
 mod system;
@@ -25,7 +25,7 @@ pub trait Number: Copy {
     ghost value: { Self → ℕ };
 
     fn number(self) -> u64
-        ensures { result ≡ value self };
+        ensures { TellsValue value self result };
 }
 
 impl Number for u64 {
@@ -54,9 +54,7 @@ pub struct Text<'a> {
 impl<'a> Text<'a> {
     // A text that begins at the start of a buffer.
     pub fn new(out: &'a mut [u8]) -> Text<'a>
-        ensures same_buffer { result.out.ghost_name ≡ out.entry.ghost_name }
-        ensures same_bytes { result.out.now ≡ out.old }
-        ensures start { result.n ≡ 0 }
+        ensures { StartsText out.entry result }
     {
         Text { out, n: 0 }
     }

@@ -33,7 +33,7 @@ pub fn fail(rt: &impl Eprint, what: &str, error: &Error) -> usize
 }
 
 // Reads until the buffer is full, the input ends or a read fails, and gives how many bytes it put at the
-// buffer's start.
+// buffer's start. Each read says how far it came, so no iterator has the places; `read_exact` tells no count.
 pub fn read_full(input: &mut impl Read, buffer: &mut [u8]) -> usize
     ensures { ReadsInto (length buffer.new) result }
 {

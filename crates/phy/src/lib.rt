@@ -57,7 +57,7 @@ pub struct Phy {
 }
 
 // What a step gives: the phy, an answer with the arguments of its Open, a notice, a primitive sent and
-// the number of a refusal, each 0 where there is none.
+// the number of a refusal, each 0 where there is none: numbers and no Option, since the record is the C interface's.
 #[repr(C)]
 #[derive(Clone, Copy, Debug, PartialEq, Eq)]
 pub struct Stepped {

@@ -27,12 +27,11 @@ pub(crate) fn to_idle(p: Phy, sent: u64) -> Stepped
 fn open_by_link(p: Phy, o: Open) -> Stepped
     ensures { result ≡ open_by_link p o }
 {
+    let asking = p.with_request(o);
     match p.link {
-        L0 => p.requesting(L1, P2, FULL_TIMER, o, 0).reports(0, SENT_OPEN),
-        L2 => p
-            .selected(P2, o, 0, p.inboundSource, p.inboundProtocol)
-            .quiet(),
-        L6 => p.requesting(L6, P2, 0, o, 0).quiet(),
+        L0 => asking.requesting(L1, FULL_TIMER).reports(0, SENT_OPEN),
+        L2 => asking.selected(p.inboundSource, p.inboundProtocol).quiet(),
+        L6 => asking.requesting(L6, 0).quiet(),
         _ => p.quiet(),
     }
 }
@@ -107,9 +106,7 @@ pub(crate) fn on_open_received(p: Phy, e: Event) -> Stepped
     ensures { result ≡ on_open_received p e }
 {
     match p.link {
-        L0 | L1 => p
-            .selected(p.port, p.request, p.part, e.first, e.second)
-            .quiet(),
+        L0 | L1 => p.selected(e.first, e.second).quiet(),
         _ => p.quiet(),
     }
 }
@@ -177,9 +174,7 @@ pub(crate) fn on_break(p: Phy) -> Stepped
         L1 => p
             .given_up(L6, 0, ANSWER_BREAK_RECEIVED)
             .reports(0, SENT_BREAK),
-        L2 => p
-            .requesting(L6, p.port, 0, p.request, p.part)
-            .reports(0, SENT_BREAK),
+        L2 => p.requesting(L6, 0).reports(0, SENT_BREAK),
         L3 | L4 => {
             let next = p.connected(L6, 0, p.connectionProtocol, OFF);
             next.reports(NOTICE_BREAK_RECEIVED, SENT_BREAK)

@@ -1,4 +1,4 @@
-// The paper's numbers of the phy.
+// The paper's numbers of the phy. They are no enums, since the records of the C interface have them.
 
 // Link states: Idle, ArbSel, Selected, Connected, DisconnectWait, BreakWait, Break.
 pub const L0: u64 = 0;

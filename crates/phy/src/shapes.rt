@@ -3,9 +3,10 @@
 ghost use Rattle.std.specs.Prelude.{◌≡◌};
 ghost use Rattle.table.specs.Refusals.{number_of};
 ghost use Rattle.phy.specs.Shapes.{requesting, given_up, idle, selected, connected, with_timer, with_waited, with_settings, reports, answers, refused};
+ghost use Rattle.phy.specs.Names.{P2 as NamesP2};
 ghost use Rattle.phy.specs.Promises.{StartsFresh, StaysQuiet};
 
-use crate::names::{L0, L2, P1, P3, P4};
+use crate::names::{L0, L2, P1, P2, P3, P4};
 use crate::{Phy, Settings, Stepped, Waited};
 use event::{NO_OPEN, Open};
 use table::{OFF, Refusal};
@@ -41,23 +42,16 @@ impl Phy {
         }
     }
 
-    // A request that waits, or none, with no connection and no OPEN from the far end.
-    pub(crate) fn requesting(
-        self,
-        link: u64,
-        port: u64,
-        timer: u64,
-        request: Open,
-        part: u64,
-    ) -> Phy
-        ensures { result ≡ requesting self.settings link port timer request part }
+    // The request that waits, or none, with no connection and no OPEN from the far end.
+    pub(crate) fn requesting(self, link: u64, timer: u64) -> Phy
+        ensures { result ≡ requesting self.settings link self.port timer self.request self.part }
     {
         Phy {
             link,
-            port,
+            port: self.port,
             timer,
-            request,
-            part,
+            request: self.request,
+            part: self.part,
             ..self.idle()
         }
     }
@@ -76,22 +70,15 @@ impl Phy {
         }
     }
 
-    // An OPEN from the far end, with a request that waits or none.
-    pub(crate) fn selected(
-        self,
-        port: u64,
-        request: Open,
-        part: u64,
-        source: u64,
-        protocol: u64,
-    ) -> Phy
-        ensures { result ≡ selected self.settings port request part source protocol }
+    // An OPEN from the far end, with the request that waits or none.
+    pub(crate) fn selected(self, source: u64, protocol: u64) -> Phy
+        ensures { result ≡ selected self.settings self.port self.request self.part source protocol }
     {
         Phy {
             link: L2,
-            port,
-            request,
-            part,
+            port: self.port,
+            request: self.request,
+            part: self.part,
             inboundSource: source,
             inboundProtocol: protocol,
             ..self.idle()
@@ -129,6 +116,18 @@ impl Phy {
                 ..self.request
             },
             part: w.part,
+            ..self
+        }
+    }
+
+    // A request that begins to wait.
+    pub(crate) fn with_request(self, request: Open) -> Phy
+        ensures { result ≡ record self { port = NamesP2; request = request; part = 0 } }
+    {
+        Phy {
+            port: P2,
+            request,
+            part: 0,
             ..self
         }
     }

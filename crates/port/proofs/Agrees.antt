@@ -9,6 +9,7 @@ use borrow.Author.Tests.{lt-ltb, le-ltb, eq-eqb, ne_eqb}
 use lib.Dec.{eqb, ltb}
 use lib.ListN.{length, set, length-set, length-append, length-map}
 use lib.Seq.{get_or-set_same, set-set, set-get_or}
+use Rattle.std.proofs.lemmas.List.{get_or-map, map-set}
 use Rattle.table.proofs.Laws.{parts}
 use Rattle.event.specs.Names.{tx_open}
 use Rattle.event.specs.Table.{known_in_trace, open_of, open_known}
@@ -31,7 +32,6 @@ use Rattle.port.specs.Lent.{tells_in}
 use Rattle.port.specs.Stages.{standing, standing_of, some_free, lowest_in, concerned, free_after, Course, none_handed, keeps_all, receives, hand_on, on_moved, on_port, taken_of}
 use Rattle.port.specs.declared.Standing.{Standing}
 use Rattle.port.specs.Laws.{Agrees, TakesAgree}
-use Rattle.port.proofs.Flags.{map_set, map_at}
 use Rattle.port.proofs.Mask.{ones_are_many, zeros_are_lowest, mask_set}
 use Rattle.port.proofs.Valid.{sound, bay_valid, then_free, then_lowest, lowest_free_lem, none_free}
 use Rattle.port.proofs.Ways.{Judged, ToPort, ToPhy, Refuses, not_valid, not_known, not_for_port, no_phy, is_full, phys_own, Way, is_refused, joins, at_once, takes, frees, open_known_lem, ways}
@@ -49,8 +49,8 @@ lowest_is bays l h = zeros_are_lowest 64 (free_of bays) (omega (arith, length-ma
 
 follows : (bays : List Bay) (i : ℕ) (b : Bay) → i < length bays → free_after (mask_in bays) i (is_free (bay_at bays i)) (is_free b) ≡ mask_in (set bays i b)
 follows bays i b l =
-    mask_set (free_of bays) i (is_free (bay_at bays i)) (is_free b) (subst (λ (n : ℕ). i < n) (sym (length-map bays is_free)) l) (map_at is_free bays i fresh_bay false l)
-    ∙ ap mask_of (sym (map_set is_free bays i b))
+    mask_set (free_of bays) i (is_free (bay_at bays i)) (is_free b) (subst (λ (n : ℕ). i < n) (sym (length-map bays is_free)) l) (get_or-map is_free bays i fresh_bay false l)
+    ∙ ap mask_of (sym (map-set is_free bays i b))
 
 -- ---- each way
 

@@ -1,7 +1,7 @@
 -- One flag of a row changed: how many are set then, and where the lowest is.
 use Prim.Native.Nat.{ℕ, zero, suc, ◌+◌, ◌<◌}
 use mathlib.Core.Bool.{Bool, true, false}
-use mathlib.Core.List.{List, [], ◌∷◌, map}
+use mathlib.Core.List.{List, [], ◌∷◌}
 use mathlib.Core.Path.{◌≡◌, refl, ap}
 use native.Mathlib.Nat.{le_of_suc-le-suc, not-suc-le-zero}
 use native.Mathlib.Omega.{arith}
@@ -9,18 +9,6 @@ use lib.ListN.{length, set, get_or}
 use Rattle.table.specs.Flags.{flag_of}
 use Rattle.port.specs.Flags.{how_many, lowest}
 use Rattle.port.specs.Laws.{Least, LowestIsLeast}
-
--- of a row changed in one place, each flag but that one is as it was
-pub map_set : {A B : Type 0} (f : A → B) (l : List A) (i : ℕ) (a : A) → map f (set l i a) ≡ set (map f l) i (f a)
-map_set f [] i a = refl
-map_set f (x ∷ l) zero a = refl
-map_set f (x ∷ l) (suc i) a = ap (λ (r : List _). f x ∷ r) (map_set f l i a)
-
--- one of a row that has it, whatever stands for those that it has not
-pub map_at : {A B : Type 0} (f : A → B) (l : List A) (i : ℕ) (a : A) (b : B) → i < length l → get_or (map f l) i b ≡ f (get_or l i a)
-map_at f [] i a b h = absurd (not-suc-le-zero h)
-map_at f (x ∷ l) zero a b h = refl
-map_at f (x ∷ l) (suc i) a b h = map_at f l i a b (le_of_suc-le-suc h)
 
 -- how many are set, once one is changed
 pub many_set : (bs : List Bool) (i : ℕ) (b : Bool) → i < length bs → how_many (set bs i b) + flag_of (get_or bs i false) ≡ how_many bs + flag_of b

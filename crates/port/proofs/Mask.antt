@@ -1,6 +1,6 @@
 -- The mask of a row of flags: its ones are as many as are set, its trailing zeros the number of the lowest, at any width; and one flag changed over is one bit changed over.
 use Prim.Native.Nat.{ℕ, zero, suc, ◌+◌, ◌*◌, ◌/◌, ◌%◌, ◌^◌, ◌<◌}
-use mathlib.Core.Bool.{Bool, true, false, not, beq, false≢true}
+use mathlib.Core.Bool.{Bool, true, false, not}
 use mathlib.Core.List.{List, [], ◌∷◌}
 use mathlib.Core.Path.{◌≡◌, refl, sym, ap, ◌∙◌}
 use native.Mathlib.Nat.{le_of_suc-le-suc, not-suc-le-zero, pow-suc}
@@ -69,21 +69,6 @@ lowest_small zero l h = absurd (omega (arith, ltb-true 0 (ones 0) h, none_in_zer
 lowest_small (suc n) l h = trailing_small 64 (suc n) (omega arith) l
 
 -- ---- one bit
-
--- the mask is as it was, or a bit of it is changed over
-pub kept : (free n : ℕ) (was is : Bool) → beq was is ≡ true → free ≡ free_after free n was is
-unfolding free_after
-kept free n true true e = refl
-kept free n true false e = absurd (false≢true e)
-kept free n false true e = absurd (false≢true e)
-kept free n false false e = refl
-
-pub changed : (free n : ℕ) (was is : Bool) → beq was is ≡ false → bit_xor free (2 ^ n) ≡ free_after free n was is
-unfolding free_after
-changed free n true true e = absurd (false≢true (sym e))
-changed free n true false e = refl
-changed free n false true e = refl
-changed free n false false e = absurd (false≢true (sym e))
 
 -- a bit changed over in the mask is a flag changed over in the row
 toggled : (bs : List Bool) (i : ℕ) → i < length bs → bit_xor (mask_of bs) (2 ^ i) ≡ mask_of (set bs i (not (get_or bs i false)))

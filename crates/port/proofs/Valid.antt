@@ -8,6 +8,7 @@ use native.Mathlib.Omega.{arith}
 use borrow.Author.Tests.{leb-true, le-leb, eqb-true, ne_eqb}
 use lib.Dec.{eqb, leb}
 use lib.ListN.{length, set, get_or, length-map}
+use Rattle.std.proofs.lemmas.List.{get_or-map, map-set}
 use Rattle.table.specs.Flags.{flag_of}
 use Rattle.table.proofs.Laws.{parts, all_hold}
 use Rattle.event.specs.Table.{open_known}
@@ -20,7 +21,7 @@ use Rattle.queue.specs.Laws.{AllKnown}
 use Rattle.port.specs.Flags.{how_many, lowest}
 use Rattle.port.specs.State.{Port, is_free, free_of, free_phys, all_pass, valid_count, valid_queue, none_beside, valid_of}
 use Rattle.port.specs.Step.{bay_at, lowest_free}
-use Rattle.port.proofs.Flags.{map_set, map_at, many_set, none_set, lowest_only, lowest_is_least}
+use Rattle.port.proofs.Flags.{many_set, none_set, lowest_only, lowest_is_least}
 
 -- ---- a valid port
 
@@ -89,12 +90,12 @@ module _ (limit : ℕ) (p : Port) (v : valid_of limit p ≡ true) where
 
 module _ (bays : List Bay) (i : ℕ) (l : i < length bays) where
   flag_at : get_or (free_of bays) i false ≡ is_free (bay_at bays i)
-  flag_at = map_at is_free bays i fresh_bay false l
+  flag_at = get_or-map is_free bays i fresh_bay false l
 
   -- how many are free, once one record is changed
   pub free_set : (b : Bay) → free_phys (set bays i b) + flag_of (is_free (bay_at bays i)) ≡ free_phys bays + flag_of (is_free b)
   free_set b =
-      ap (λ (bs : List Bool). how_many bs + flag_of (is_free (bay_at bays i))) (map_set is_free bays i b)
+      ap (λ (bs : List Bool). how_many bs + flag_of (is_free (bay_at bays i))) (map-set is_free bays i b)
       ∙ ap (λ (f : Bool). how_many (set (free_of bays) i (is_free b)) + flag_of f) (sym flag_at)
       ∙ many_set (free_of bays) i (is_free b) (subst (λ (n : ℕ). i < n) (sym (length-map bays is_free)) l)
 
@@ -108,7 +109,7 @@ module _ (bays : List Bay) (i : ℕ) (l : i < length bays) where
 
     pub then_lowest : (b : Bay) → is_free b ≡ true → lowest_free (set bays i b) ≡ i
     then_lowest b t =
-        ap lowest (map_set is_free bays i b ∙ ap (set (free_of bays) i) t)
+        ap lowest (map-set is_free bays i b ∙ ap (set (free_of bays) i) t)
         ∙ lowest_only (free_of bays) i (subst (λ (n : ℕ). i < n) (sym (length-map bays is_free)) l) none
 
 -- where one is free, the lowest is a phy of the port, and free

@@ -33,6 +33,7 @@ pub(crate) fn lowest_in(free: u64) -> u64
 }
 
 // The lowest of them, if any is free.
+#[tactic(auto, using(crate::proofs::Mask::lowest_small))]
 pub(crate) fn lowest_free(free: u64) -> Option<PhyNumber>
     ensures { MatchOption result (some_free free ≡ false) (λ phy. (some_free free ≡ true) × (phy.number ≡ lowest_in free)) }
 {
@@ -45,6 +46,7 @@ pub(crate) fn lowest_free(free: u64) -> Option<PhyNumber>
 }
 
 // The mask once a phy was free or was not, and now is or is not.
+#[tactic(auto, unfolding(crate::specs::Stages::free_after))]
 pub(crate) fn free_after(free: u64, phy: PhyNumber, was: bool, is: bool) -> u64
     ensures { result ≡ free_after free phy.number was is }
 {

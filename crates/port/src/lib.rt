@@ -22,7 +22,7 @@ pub const THE_PORT: u64 = 127;
 // What an event reports: an answer with the arguments of its Open, at most two notices, a primitive sent,
 // each with its tick, and the number of a refusal; each 0 where there is none.
 #[repr(C)]
-#[derive(Clone, Copy)]
+#[derive(Clone, Copy, Debug, PartialEq, Eq)]
 pub struct Reports {
     pub answered: Open,
     pub answer: Report,
@@ -35,7 +35,7 @@ pub struct Reports {
 // What a step gives: the event's own reports, the phy that then received an Open, 127 where none did, and
 // what that phy sent.
 #[repr(C)]
-#[derive(Clone, Copy)]
+#[derive(Clone, Copy, Debug, PartialEq, Eq)]
 pub struct Stepped {
     pub reports: Reports,
     pub handed: u64,
@@ -43,7 +43,7 @@ pub struct Stepped {
 }
 
 // What a survey of the row gathers: how many records, which are free, and whether all are valid.
-#[derive(Clone, Copy)]
+#[derive(Clone, Copy, Debug, PartialEq, Eq)]
 pub struct Scan {
     pub count: u64,
     pub free: u64,
@@ -51,7 +51,7 @@ pub struct Scan {
 }
 
 // Where a port stands between events: how many phys, which of them are free, how many Opens wait.
-#[derive(Clone, Copy)]
+#[derive(Clone, Copy, Debug, PartialEq, Eq)]
 pub struct Standing {
     pub count: u64,
     pub free: u64,
@@ -59,14 +59,14 @@ pub struct Standing {
 }
 
 // Whether a port is valid, and where it stands.
-#[derive(Clone, Copy)]
+#[derive(Clone, Copy, Debug, PartialEq, Eq)]
 pub struct Judged {
     pub valid: bool,
     pub standing: Standing,
 }
 
 // What an event makes of the one record that it concerns, where the port then stands, and what is reported.
-#[derive(Clone, Copy)]
+#[derive(Clone, Copy, Debug, PartialEq, Eq)]
 pub struct Taken {
     pub bay: Bay,
     pub standing: Standing,

@@ -35,6 +35,7 @@ pub fn survey(row: &[Bay], from: Scan) -> Scan
 }
 
 // Any row, queue, number and event. An event concerns one record at most, and that alone is put.
+#[tactic(auto, using(crate::proofs::InPlace::in_place))]
 pub fn step(row: &mut [Bay], queue: &mut [u64], number: u64, event: Event) -> Stepped
     ensures { Steps row.old queue.old number event result row.new queue.new }
 {

@@ -12,6 +12,7 @@ use event::Event;
 use table::Refusal;
 
 // P1 with L0.
+#[tactic(auto, unfolding(crate::specs::State::is_free))]
 pub(crate) fn is_free(bay: Bay) -> bool
     ensures { result ≡ is_free bay }
 {
@@ -31,6 +32,7 @@ pub fn begun() -> Scan
 
 impl Scan {
     // One record more. Past the most of them none is counted, and the row is not valid.
+    #[tactic(auto, unfolding(crate::specs::Stages::noted_of))]
     pub(crate) fn noted(self, bay: Bay) -> Scan
         ensures { result ≡ noted_of self bay }
     {
@@ -72,6 +74,7 @@ pub fn judge(scan: Scan, queue: &[u64]) -> Judged
 }
 
 // Any event after a survey: the port is judged first, then the event.
+#[tactic(auto, unfolding(crate::specs::Stages::plan_of))]
 pub(crate) fn planned(scan: Scan, own: Bay, queue: &mut [u64], number: u64, event: Event) -> Taken
     ensures { Plans scan own queue.old number event result queue.new }
 {

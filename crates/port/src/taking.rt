@@ -11,14 +11,13 @@ ghost use Rattle.port.specs.Promises.{Concerns, Takes};
 use crate::free::{PhyNumber, free_after, lowest_free, lowest_in, some_free};
 use crate::state::is_free;
 use crate::{MOST_PHYS, Reports, Standing, Stepped, THE_PORT, Taken};
-use bay::{Bay, Report};
+use bay::{Bay, NO_REPORT};
 use event::{Event, NO_OPEN, Open, TX_OPEN};
 use queue::MOST_WAITING;
 use table::Refusal;
 
-const NO_REPORT: Report = Report { code: 0, tick: 0 };
-
 // The place of the record that an event concerns: to the port, that of the lowest free phy.
+#[tactic(auto, unfolding(crate::specs::Stages::concerned))]
 pub fn concerned(free: u64, number: u64) -> usize
     ensures { Concerns free number result }
 {
@@ -137,6 +136,7 @@ impl Focus {
 
     // After an event of the phy with a number. None was free beside a waiting Open, so if one is, it is this
     // phy; and after this Open it is not, so there is no second hand-out.
+    #[tactic(auto, unfolding(crate::specs::Stages::hand_on))]
     fn hand_on(self, phy: PhyNumber, queue: &mut [u64], reports: Reports) -> Taken
         ensures { Leaves result (hand_on self.standing phy.number self.own queue.old reports).taken queue.new (hand_on self.standing phy.number self.own queue.old reports).queue }
     {
@@ -150,6 +150,7 @@ impl Focus {
     }
 
     // What the phy with a number makes of its event.
+    #[tactic(auto, unfolding(crate::specs::Stages::on_moved))]
     fn on_phy(self, phy: PhyNumber, queue: &mut [u64], event: Event) -> Taken
         ensures { Leaves result (on_moved self.standing phy.number self.own queue.old (move_of self.own event)).taken queue.new (on_moved self.standing phy.number self.own queue.old (move_of self.own event)).queue }
     {
@@ -162,6 +163,7 @@ impl Focus {
     }
 
     // To the port: a Tx Open goes to a free phy at once, none being ahead of it, or joins the queue.
+    #[tactic(auto, unfolding(crate::specs::Stages::on_port))]
     fn on_port(self, queue: &mut [u64], event: Event) -> Taken
         ensures { Leaves result (on_port self.standing self.own queue.old event).taken queue.new (on_port self.standing self.own queue.old event).queue }
     {
@@ -179,6 +181,7 @@ impl Focus {
 }
 
 // An event that is known, of a port that was judged valid; of those to the port itself only a Tx Open.
+#[tactic(auto, unfolding(crate::specs::Stages::taken_of))]
 pub fn take(standing: Standing, own: Bay, queue: &mut [u64], number: u64, event: Event) -> Taken
     ensures { Takes standing own queue.old number event result queue.new }
 {

@@ -8,6 +8,7 @@ use native.Mathlib.Omega.{arith}
 use borrow.Author.Tests.{eqb-true}
 use lib.ListN.{length, set, get_or, length-set}
 use lib.Seq.{get_or-set_same}
+use Rattle.std.proofs.lemmas.List.{get_or-map}
 use Rattle.table.proofs.Laws.{by_order}
 use Rattle.event.specs.Table.{open_of}
 use Rattle.event.specs.declared.Event.{Event}
@@ -23,7 +24,7 @@ use Rattle.port.specs.Names.{the_port}
 use Rattle.port.specs.State.{Port, is_free, free_of, free_phys}
 use Rattle.port.specs.Step.{PortStepped, bay_at, lowest_free}
 use Rattle.port.specs.declared.Reports.{Reports}
-use Rattle.port.proofs.Flags.{map_at, lowest_is_least}
+use Rattle.port.proofs.Flags.{lowest_is_least}
 use Rattle.port.proofs.Valid.{bay_valid, none_waits, lowest_free_lem}
 use Rattle.port.proofs.Ways.{Way, is_refused, joins, at_once, takes, frees, is_some, opened, ways}
 use Rattle.port_laws.specs.Laws.{Idle, AtPort, AtPhy, phy_at, FreedReceives, IdleReceives}
@@ -71,7 +72,7 @@ module _ {limit : ℕ} {p : Port} {e : Event} (i : ℕ) (a : AtPort limit p the_
       by_order (lowest_free p.bays) i
       (λ h. absurd (none (lowest_free p.bays) h (is_idle (bay_at p.bays (lowest_free p.bays)) low.1)))
       (λ h. by_order i (lowest_free p.bays)
-      (λ m. absurd (false≢true (sym ((lowest_is_least (free_of p.bays) some).none_before i m) ∙ map_at is_free p.bays i fresh_bay false l ∙ is_free_lem (bay_at p.bays i) d)))
+      (λ m. absurd (false≢true (sym ((lowest_is_least (free_of p.bays) some).none_before i m) ∙ get_or-map is_free p.bays i fresh_bay false l ∙ is_free_lem (bay_at p.bays i) d)))
       (λ m. omega arith))
 
   received : {r : PortStepped} → Way limit p the_port e r → r.reports.refusal ≡ 0

@@ -6,6 +6,7 @@ use mathlib.Core.Path.{◌≡◌, refl, sym, ap, subst, ◌∙◌}
 use native.Mathlib.Omega.{arith}
 use lib.ListN.{length, set, get_or}
 use lib.Seq.{get_or-set_same, get_or-set_other}
+use Rattle.std.proofs.lemmas.List.{get_or-map}
 use Rattle.event.specs.Table.{open_of, open_known}
 use Rattle.event.specs.declared.Event.{Event}
 use Rattle.event.specs.declared.Open.{Open}
@@ -17,7 +18,7 @@ use Rattle.bay.specs.declared.Stepped.{Stepped as BayStepped}
 use Rattle.bay_laws.proofs.Steps as bays
 use Rattle.port.specs.State.{Port, is_free, free_of}
 use Rattle.port.specs.Step.{HandOut, PortStepped, open_event, bay_at, lowest_free}
-use Rattle.port.proofs.Flags.{map_at, none_set, lowest_is_least}
+use Rattle.port.proofs.Flags.{none_set, lowest_is_least}
 use Rattle.port.proofs.Valid.{bay_valid, none_free, lowest_free_lem}
 use Rattle.port.proofs.Ways.{Way, is_refused, joins, at_once, takes, frees, opened, ways}
 use Rattle.port_laws.specs.Laws.{Sends, HandOutsSend}
@@ -59,14 +60,14 @@ by_way {limit} {p} {number} {e} {r} (at_once w z some) h q =
     let low = lowest_free_lem p.bays some in
     subst (Sends p r) (only _ h q)
     (sends p r (lowest_free p.bays) (bay_at p.bays (lowest_free p.bays)) (open_of e) low.0 (bay_valid limit p w.judged.valid (lowest_free p.bays) low.0) low.1 (its_open_known e w.judged.known w.opens) refl
-    (λ j m. sym (map_at is_free p.bays j fresh_bay false (omega (arith, low.0))) ∙ (lowest_is_least (free_of p.bays) some).none_before j m))
+    (λ j m. sym (get_or-map is_free p.bays j fresh_bay false (omega (arith, low.0))) ∙ (lowest_is_least (free_of p.bays) some).none_before j m))
 by_way (takes _ _) h q = nothing q
 by_way {limit} {p} {number} {e} {r} (frees o os w z f) h q =
     let v = w.judged.valid in
     let none = none_free limit p v (omega (arith, ap length z)) in
     subst (Sends p r) (only _ h q)
     (sends p r number (bay.step_of (bay_at p.bays number) e).next o w.there (bays.stays_valid (bay_at p.bays number) e (bay_valid limit p v number w.there)) f (oldest_known limit p o os v z) refl
-    (λ j m. sym (map_at is_free p.bays j fresh_bay false (omega (arith, w.there))) ∙ none_set (free_of p.bays) j none))
+    (λ j m. sym (get_or-map is_free p.bays j fresh_bay false (omega (arith, w.there))) ∙ none_set (free_of p.bays) j none))
 
 pub hand_outs_send : HandOutsSend
 hand_outs_send limit p number e h q = by_way (ways limit p number e) h q

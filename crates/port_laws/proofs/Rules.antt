@@ -9,6 +9,7 @@ use borrow.Author.Tests.{eq-eqb, eqb-true}
 use lib.Dec.{eqb}
 use lib.ListN.{length, length-replicate}
 use Rattle.table.proofs.Laws.{by_test, parts}
+use Rattle.std.proofs.lemmas.List.{get_or-map}
 use Rattle.event.specs.Table.{open_known}
 use Rattle.event.specs.declared.Open.{Open}
 use Rattle.phy.specs.Names.{L0, P1}
@@ -19,7 +20,7 @@ use Rattle.queue.specs.Laws.{AllKnown}
 use Rattle.port.specs.State.{Port, is_free, free_of, free_phys, all_pass, none_beside, fresh_port}
 use Rattle.port.specs.Step.{bay_at}
 use Rattle.port.specs.Log.{after}
-use Rattle.port.proofs.Flags.{map_at, none_set}
+use Rattle.port.proofs.Flags.{none_set}
 use Rattle.port.proofs.Valid.{known_all, sound, sound_valid, bay_valid, lowest_free_lem}
 use Rattle.port_laws.specs.Laws.{Idle, ValidExactly, IdleNoneWaits}
 use Rattle.port_laws.proofs.EachPhy.{after_count}
@@ -37,7 +38,7 @@ is_free_lem b i = rw (eq-eqb b.phy.link L0 i.0, eq-eqb b.phy.port P1 i.1)
 
 -- where none is free, none is idle
 pub none_idle : (bays : List Bay) → free_phys bays ≡ 0 → (i : ℕ) → i < length bays → Idle (bay_at bays i).phy → ⊥
-none_idle bays n i l d = false≢true (sym (none_set (free_of bays) i n) ∙ map_at is_free bays i fresh_bay false l ∙ is_free_lem (bay_at bays i) d)
+none_idle bays n i l d = false≢true (sym (none_set (free_of bays) i n) ∙ get_or-map is_free bays i fresh_bay false l ∙ is_free_lem (bay_at bays i) d)
 
 -- ---- the rules
 

@@ -43,3 +43,6 @@ module _ {ns : List ℕ} {waiting : ℕ} (c : Counted ns waiting) where
   counted_all h few =
       let none : most_waiting - waiting ≡ 0 = omega arith in
       omega (arith, rw none at c.whole)
+
+-- one for each goal of the loop
+pub ruleset counting = (counted_start, counted_more, counted_none, counted_all)

@@ -1,15 +1,12 @@
 -- Stores at the place of an Open, and the zeros behind those that wait: they are the definitions' own.
-use Prim.Native.Nat.{ℕ, ◌+◌, ◌-◌, ◌*◌, ◌≤◌}
+use Prim.Native.Nat.{ℕ, ◌+◌, ◌≤◌}
 use mathlib.Core.List.{List, ◌++◌, append_assoc}
 use mathlib.Core.Path.{◌≡◌, sym, ap, ◌∙◌}
 use native.Mathlib.Omega.{arith}
-use borrow.Author.Tests.{eq-eqb, ne_eqb}
-use lib.Dec.{eqb}
 use borrow.Rule.Slice.PartMut.{put_mid}
 use lib.ListN.{length, take, drop, length-append, length-drop}
 use lib.Seq.{sets, sets-eq, take_at, drop_at, drop-drop, length-take-le}
-use Rattle.std.proofs.lemmas.List.{take_rest}
-use Rattle.queue.specs.Lent.{numbers_each, lent_length, queue_in, all_zero, good_lent}
+use Rattle.queue.specs.Lent.{numbers_each}
 
 -- a run that is stored over one as long
 pub stored_over : (first run old rest : List ℕ) (at : ℕ) → length first ≡ at → length old ≡ length run
@@ -37,13 +34,3 @@ cleared ns zeros count n used h e six =
     let long : length kept ≡ count = length-take-le count (drop numbers_each ns) (rw length-drop (omega arith)) in
     rw (take_at kept (drop count ns) count long, drop_at kept (drop count ns) count long, drop-drop n count ns, e)
     (sym (append_assoc kept zeros (drop used ns)))
-
--- numbers of another length are not good, and of this length where all are zero behind the Opens that wait
-pub good_long : (ns : List ℕ) (waiting : ℕ) → length ns ≡ lent_length → waiting ≡ length (queue_in ns)
-    → all_zero (take (length ns - numbers_each * waiting) (drop (numbers_each * waiting) ns)) ≡ good_lent ns
-unfolding good_lent
-good_long ns waiting h e = rw (eq-eqb (length ns) lent_length h, take_rest ns (numbers_each * waiting), e)
-
-pub good_not : (ns : List ℕ) → (length ns ≡ lent_length → ⊥) → eqb (length ns) lent_length ≡ good_lent ns
-unfolding good_lent
-good_not ns h = rw (ne_eqb (length ns) lent_length h)

@@ -20,7 +20,7 @@ pub const LENGTH: usize = 192;
 
 // Whether numbers are Opens as they are lent, and how many of these wait. No Option: `Judges` settles how many
 // wait by numbers that are not good too, and a port that is refused is reported with them.
-#[derive(Clone, Copy)]
+#[derive(Clone, Copy, Debug, PartialEq, Eq)]
 pub struct Judgement {
     pub good: bool,
     pub waiting: u64,
@@ -34,6 +34,7 @@ fn number_at(queue: &[u64], at: usize) -> u64
 }
 
 // The Open at a place.
+#[tactic(auto, unfolding(crate::specs::Lent::open_from))]
 fn open_at(queue: &[u64], at: usize) -> Open
     requires { at ≤ lent_length }
     ensures { result ≡ open_from (drop at queue.now) }
@@ -49,6 +50,7 @@ fn open_at(queue: &[u64], at: usize) -> Open
 }
 
 // How many Opens wait: those in front up to the first that is not known.
+#[tactic(auto, using(crate::proofs::Loops::counting))]
 fn count_waiting(queue: &[u64]) -> u64
     ensures counted { result ≡ length (queue_in queue.now) }
     ensures few { result ≤ most_waiting }
@@ -69,6 +71,7 @@ fn all_zero(numbers: &[u64]) -> bool
 }
 
 // Judges numbers of any length, before they are used.
+#[tactic(auto, unfolding(crate::specs::Lent::good_lent))]
 pub fn judged(queue: &[u64]) -> Judgement
     ensures { Judges queue.now result }
 {
@@ -99,6 +102,7 @@ fn numbers_of(open: Open) -> [u64; NUMBERS_EACH]
 }
 
 // One Open more behind those that wait; without room nothing changes.
+#[tactic(auto, using(crate::proofs::Places::put_run), unfolding(crate::specs::Lent::joined))]
 pub fn join(queue: &mut [u64], waiting: u64, open: Open)
     ensures { Joins queue.old waiting «open» queue.new }
 {
@@ -109,6 +113,7 @@ pub fn join(queue: &mut [u64], waiting: u64, open: Open)
 }
 
 // The oldest of those that wait is gone and the others move up; only what is in use moves.
+#[tactic(auto, unfolding(crate::specs::Lent::advanced))]
 pub fn advance(queue: &mut [u64], waiting: u64)
     ensures { Advances queue.old waiting queue.new }
 {

@@ -2,7 +2,7 @@
 use mathlib.Core.Path.{◌≡◌, refl, ap}
 use Rattle.table.specs.declared.Refusal.{Refusal}
 use Rattle.table.specs.Results.{TellsOnce}
-use Rattle.table.proofs.Results.{leads_back, refusal_of, refusal_back, with_lent}
+use Rattle.table.proofs.Results.{leads_back, refusal_of, refusal_back, by_equation, with_lent}
 use Rattle.run.specs.Running.{Halt, at_end, at_budget, at_fault, refused, Told, tells_stop, tells}
 use Rattle.run.specs.Laws.{Determined}
 use Rattle.run.specs.declared.Stop.{Stop}
@@ -35,5 +35,6 @@ determined =
     record {
       stop_once = stop_once;
       ran_once = same_ran;
+      byte_for = λ refusal answer. by_equation _;
       run = λ p s budget before. with_lent same_ran _ _;
     }

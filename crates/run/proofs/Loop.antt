@@ -11,6 +11,7 @@ use lib.Dec.{leb, eqb}
 use lib.ListN.{length, set, length-set}
 use lib.Seq.{sets}
 use Rattle.table.specs.Refusals.{bad_state, no_room}
+use Rattle.table.proofs.Laws.{by_test}
 use Rattle.event.specs.Names.{time_stamp}
 use Rattle.event.specs.Table.{known_of, stamp_of}
 use Rattle.event.specs.declared.Event.{Event}
@@ -35,7 +36,7 @@ use Rattle.bay.proofs.Steps.{with_clock, phy_valid}
 use Rattle.bay_laws.proofs.Steps.{stays_valid, others_are_phys}
 use Rattle.bay_laws.proofs.Bytes.{are_bytes}
 use Rattle.run.specs.Running.{Halt, at_end, at_budget, at_fault, refused, Course, stops, first, taking, byte_for, byte_of, bytes_of, Told, told, told_of, tells_stop, tells}
-use Rattle.run.specs.Promises.{Gives, TakesEvents, Runs}
+use Rattle.run.specs.Promises.{GivesByte, Gives, TakesEvents, Runs}
 use Rattle.run.specs.Stages.{Stage, clocked, ReadyOn, Comes, GoesOn}
 use Rattle.run.specs.declared.Ran.{Ran}
 use Rattle.run.specs.declared.Stop.{Stop}
@@ -46,6 +47,12 @@ use Rattle.number.specs.declared.Found.{Found}
 use Rattle.trace.specs.declared.Fault.{Fault as TraceFault}
 use Rattle.run.specs.declared.Gone.{Gone}
 use Rattle.run.proofs.Taking.{taking_ended, taking_spent, taking_event, taking_fault}
+
+-- a byte of bytes is whole
+whole_byte : {refusal answer byte : ℕ} → (answer < 256) × (refusal < 256) → GivesByte refusal answer byte → byte ≡ byte_for refusal answer
+unfolding byte_for
+whole_byte {refusal} {answer} small y =
+    by_test (eqb refusal 0) (λ t. rw t (omega (arith, small, rw t at y))) (λ f. rw f (omega (arith, small, rw f at y)))
 
 -- ---- from stage to stage
 
@@ -153,20 +160,20 @@ module _ {p : Phy} {s : List ℕ} {place count budget : ℕ} {before : List ℕ}
     moves : phyStep.step_of state e ≡ m
     moves = step_is_move state e (record { valid = g.valid; known = known }) ∙ sym q
 
-    pub going_small : (m.answer < 256) × (m.refusal < 256)
+    going_small : (m.answer < 256) × (m.refusal < 256)
     going_small = rw (← moves) ((phyBytes.are_bytes state e).answer, (phyBytes.are_bytes state e).refusal)
 
     steps : (b : Bay) → valid_of b ≡ true → b.phy ≡ state → step_of b e ≡ at_once b m
     steps b v y = others_are_phys b e v (rw other refl) ∙ ap (at_once b) (ap (λ (x : Phy). phyStep.step_of x e) y ∙ moves)
 
-    pub going_on : {byte : ℕ} → byte ≡ byte_for m.refusal m.answer → Going p s place count budget before m.next next (n + 1) (set buffer n byte)
+    pub going_on : {byte : ℕ} → GivesByte m.refusal m.answer byte → Going p s place count budget before m.next next (n + 1) (set buffer n byte)
     going_on {byte} y =
         record {
           valid = rw (← moves) (phySteps.stays_valid state e g.valid);
           far = omega (arith, g.far);
           within = omega arith;
           same = length-set buffer n byte ∙ g.same;
-          stage = λ b lent base baseSet w. let v = g.stage b lent base baseSet w in stage_on v h r (steps (clocked state base baseSet) v.valid refl) y;
+          stage = λ b lent base baseSet w. let v = g.stage b lent base baseSet w in stage_on v h r (steps (clocked state base baseSet) v.valid refl) (whole_byte going_small y);
         }
 
   -- the budget is spent
@@ -227,11 +234,11 @@ module _
     stamp_room = omega (arith, stamp_left, w.room, as_long)
 
     module _ {m : Stepped} (t : m ≡ step_of held (stamp_of stamp.value)) where
-      pub stamp_small : (m.answer.code < 256) × (m.refusal < 256)
+      stamp_small : (m.answer.code < 256) × (m.refusal < 256)
       stamp_small = rw t ((are_bytes held (stamp_of stamp.value)).answer, (are_bytes held (stamp_of stamp.value)).refusal)
 
-      pub stamp_on : {n : ℕ} → n ≡ byte_of m → Stage b s budget before m.next stamp.next (r.count + 1) (set now r.count n)
-      stamp_on = let c = behind_is q in stage_on c.stage c.left c.stands (sym t)
+      pub stamp_on : {n : ℕ} → GivesByte m.refusal m.answer.code n → Stage b s budget before m.next stamp.next (r.count + 1) (set now r.count n)
+      stamp_on y = let c = behind_is q in stage_on c.stage c.left c.stands (sym t) (whole_byte stamp_small y)
 
   -- nothing more comes
   pub no_more : (x : Ran) {stop : Stop} → r.behind ≡ Err stop → tells x ≡ told r.count held (tells_stop stop) → TakesEvents b s budget before x now

@@ -2,7 +2,7 @@
 use Rattle.std.specs.Prelude.{ℕ, ◌+◌, ◌≤◌, ◌<◌, true, false, List, [], ◌∷◌, ◌++◌, map, ◌↔◌, ◌≡◌, length, take, drop}
 use Rattle.table.specs.Choice.{pick}
 use Rattle.table.specs.Refusals.{bad_state, bad_event, no_room}
-use Rattle.table.specs.Results.{TellsOnce, DeterminesLent}
+use Rattle.table.specs.Results.{TellsOnce, Determines, DeterminesLent}
 use Rattle.event.specs.declared.Event.{Event}
 use Rattle.trace.specs.Reading as reading
 use Rattle.trace.specs.Reading.{read_event}
@@ -22,7 +22,7 @@ use Rattle.bay.specs.declared.Bay.{Bay}
 use Rattle.bay_laws.specs.Spelled.{Answer, bay_opens, bay_answers, Alike}
 use Rattle.run.specs.Running.{Halt, at_end, at_budget, at_fault, refused, Course, taking, bytes_of, run_of}
 use Rattle.run.specs.Running.{buffer_after, tells_stop, tells}
-use Rattle.run.specs.Promises.{Runs}
+use Rattle.run.specs.Promises.{GivesByte, Runs}
 
 -- ---- the result is determined (proofs/Determined)
 
@@ -30,6 +30,7 @@ use Rattle.run.specs.Promises.{Runs}
 pub record Determined : Type 0 where
   pub stop_once : TellsOnce tells_stop
   pub ran_once : TellsOnce tells
+  pub byte_for : (refusal answer : ℕ) → Determines (GivesByte refusal answer)
   pub run : (p : Phy) (s : List ℕ) (budget : ℕ) (before : List ℕ) → DeterminesLent (Runs p s budget before)
 
 -- ---- each refusal exactly when (proofs/Refusals)

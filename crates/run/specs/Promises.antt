@@ -1,12 +1,16 @@
 -- What each function promises, cited by its `ensures` and, of the public one, by `Determined` in Laws.
-use Rattle.std.specs.Prelude.{ℕ, ◌≤◌, true, List, ◌≡◌, length}
+use Rattle.std.specs.Prelude.{ℕ, ◌%◌, ◌≤◌, true, List, ◌≡◌, length}
 use Rattle.std.proofs.lemmas.List.Edits.{sets}
 use Rattle.table.specs.Results.{Leaves}
 use Rattle.phy.specs.declared.Phy.{Phy}
 use Rattle.bay.specs.State.{valid_of}
 use Rattle.bay.specs.declared.Bay.{Bay}
-use Rattle.run.specs.Running.{taking, bytes_of, Told, told_of, run_of, buffer_after, tells}
+use Rattle.run.specs.Running.{taking, byte_for, bytes_of, Told, told_of, run_of, buffer_after, tells}
 use Rattle.run.specs.declared.Ran.{Ran}
+
+-- `byte_for` of a refusal and an answer
+abbrev pub GivesByte : (refusal answer : ℕ) → ℕ → Type 0
+GivesByte refusal answer r = r ≡ byte_for refusal answer % 256
 
 -- what `take_events` asks: the bay is valid, and the buffer has room for the budget
 pub record Ready (b : Bay) (budget : ℕ) (buffer : List ℕ) : Type 0 where

@@ -2,10 +2,10 @@
 // taken. The recorder's clock starts with the run, and is given back with the phy.
 #![tactic(auto)]
 
-ghost use Rattle.std.specs.Prelude.{◌<◌, ◌≡◌};
+ghost use Rattle.std.specs.Prelude.{◌≡◌};
 ghost use Rattle.bay.specs.State.{unstamped as state_unstamped};
-ghost use Rattle.run.specs.Running.{byte_for, told, tells, tells_stop};
-ghost use Rattle.run.specs.Promises.{Runs, Ready, TakesEvents};
+ghost use Rattle.run.specs.Running.{told, tells, tells_stop};
+ghost use Rattle.run.specs.Promises.{GivesByte, Runs, Ready, TakesEvents};
 ghost use Rattle.run.specs.Stages.{ReadyOn, GoesOn};
 
 use bay::Bay;
@@ -41,16 +41,12 @@ pub(crate) struct Gone {
     pub(crate) behind: Result<Found<u64>, Stop>,
 }
 
-// The byte of an event taken: the refusal, or else the answer, or else 0.
-fn byte_for(refusal: u64, answer: u64) -> u8
-    requires { (answer < 256) × (refusal < 256) }
-    ensures { result ≡ byte_for refusal answer }
+// The byte of an event taken: the refusal, or else the answer, or else 0. All of them are bytes.
+pub fn byte_for(refusal: u64, answer: u64) -> u8
+    ensures { GivesByte refusal answer result }
 {
-    if refusal == 0 {
-        answer as u8
-    } else {
-        refusal as u8
-    }
+    let told = if refusal == 0 { answer } else { refusal };
+    (told % 256) as u8
 }
 
 fn went(phy: Phy, count: usize, behind: Result<Found<u64>, Stop>) -> Gone

@@ -7,9 +7,10 @@ use lib.ListN.{length, replicate}
 use Rattle.table.proofs.Laws.{apart}
 use Rattle.event.specs.declared.ShelfEvent.{ShelfEvent}
 use Rattle.trace.specs.declared.Reader.{Reader}
+use Rattle.trace.specs.Reading.{ReadOf}
 use Rattle.shelf.specs.Reading.{ToldShelf, shelf_event, shelf_end, shelf_refused, zero_shelf, shelf_given, shelf_reached, tells_shelf}
 use Rattle.shelf.specs.Promises.{ReadsShelf, TakesShelf}
-use Rattle.shelf.specs.Laws.{ShelfRead, ShelfPasses, here, on, ShelfCalls, uncalled, called, FaultStays, StaysPut, FirstGiven, FirstEvents}
+use Rattle.shelf.specs.Laws.{ShelfPasses, here, on, ShelfCalls, uncalled, called, FaultStays, StaysPut, FirstGiven, FirstEvents}
 use Rattle.shelf.proofs.Determined.{determined}
 use Rattle.shelf.proofs.Refusals.{fault_at_first}
 
@@ -33,7 +34,7 @@ zero_given shelf_end n = refl
 zero_given (shelf_refused k at) n = refl
 
 -- the reader stands still
-still : {before : Reader} (r : ShelfRead) {after : Reader} → TakesShelf before r after → NoEvent (tells_shelf r) → after ≡ before
+still : {before : Reader} (r : ReadOf ShelfEvent) {after : Reader} → TakesShelf before r after → NoEvent (tells_shelf r) → after ≡ before
 still {before} r t n = t.leaves ∙ ap (λ (place : ℕ). record { trace = before.trace; place = place }) (ap (shelf_reached before.place) (sym t.says) ∙ no_move (tells_shelf r) n before.place)
 
 pub fault_stays : FaultStays
@@ -45,13 +46,13 @@ fault_stays before r after n at t e =
       stays = still r t none;
     }
 
-again : {before after : Reader} (r : ShelfRead) (rs : List ShelfRead) → ReadsShelf before.trace.now before.place r → NoEvent (tells_shelf r) → ShelfCalls before rs after
+again : {before after : Reader} (r : ReadOf ShelfEvent) (rs : List (ReadOf ShelfEvent)) → ReadsShelf before.trace.now before.place r → NoEvent (tells_shelf r) → ShelfCalls before rs after
     → (rs ≡ replicate (length rs) r) × (after ≡ before)
 again r [] e n uncalled = (refl, refl)
 again {before} {after} r (q ∷ rs) e n (called t c) =
     let same : q ≡ r = determined.event_at before.trace.now before.place q r t.says e in
     let more = again r rs e n (subst (λ (m : Reader). ShelfCalls m rs after) (still q t (rw same n)) c) in
-    (ap₂ (λ (x : ShelfRead) (l : List ShelfRead). x ∷ l) same more.0, more.1)
+    (ap₂ (λ (x : ReadOf ShelfEvent) (l : List (ReadOf ShelfEvent)). x ∷ l) same more.0, more.1)
 
 pub stays_put : StaysPut
 stays_put before after r rs (called t c) n =
@@ -61,7 +62,7 @@ stays_put before after r rs (called t c) n =
 -- ---- events
 
 first_from :
-    (rs : List ShelfRead) {start after : Reader} {es : List ShelfEvent} {last : ℕ}
+    (rs : List (ReadOf ShelfEvent)) {start after : Reader} {es : List ShelfEvent} {last : ℕ}
     → ShelfPasses start.trace.now start.place es last → ShelfCalls start rs after → length rs ≤ length es
     → FirstGiven start.trace.now start.place es last rs after
 first_from [] p uncalled h = record { events = refl; passed = here; others = p }

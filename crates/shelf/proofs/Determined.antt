@@ -5,16 +5,18 @@ use Rattle.table.specs.declared.Refusal.{Refusal}
 use Rattle.table.specs.Results.{TellsOnce}
 use Rattle.table.proofs.Results.{leads_back, refusal_of, refusal_back, by_telling, by_equation, with_lent}
 use Rattle.trace.proofs.Determined.{written_once}
+use Rattle.event.specs.declared.ShelfEvent.{ShelfEvent}
+use Rattle.trace.specs.Reading.{ReadOf}
 use Rattle.shelf.specs.Reading.{ToldShelf, shelf_event, shelf_end, shelf_refused, tells_shelf}
-use Rattle.shelf.specs.Laws.{ShelfRead, Determined, ReachesTold}
+use Rattle.shelf.specs.Laws.{Determined, ReachesTold}
 
 -- what is said tells which result said it
-answer : ToldShelf → ShelfRead
+answer : ToldShelf → ReadOf ShelfEvent
 answer (shelf_event e next) = Ok (Some (record { value = e; next = next }))
 answer shelf_end = Ok None
 answer (shelf_refused n at) = Err (record { refusal = refusal_of n; place = at })
 
-answers : (r : ShelfRead) → answer (tells_shelf r) ≡ r
+answers : (r : ReadOf ShelfEvent) → answer (tells_shelf r) ≡ r
 unfolding answer
 answers (Ok (Some found)) = refl
 answers (Ok None) = refl

@@ -1,12 +1,11 @@
 -- What is promised of events of a shelf trace beyond the contracts. A heading names the files of proofs/.
 use Rattle.std.specs.Prelude.{ℕ, ◌+◌, ◌^◌, ◌≤◌, ◌<◌, true, false, List, [], ◌∷◌}
-use Rattle.std.specs.Prelude.{Option, Result, map, ◌↔◌, ◌⊎◌, ◌≡◌, length, take, drop, replicate}
+use Rattle.std.specs.Prelude.{map, ◌↔◌, ◌⊎◌, ◌≡◌, length, take, drop, replicate}
 use Rattle.std.specs.Borrow.{Bor}
 use Rattle.table.specs.Refusals.{bad_event, cut, too_large, no_room}
 use Rattle.table.specs.Results.{TellsOnce, Determines, DeterminesLent}
 use Rattle.number.specs.Reading.{value, read_number}
 use Rattle.number.specs.Laws.{Bytes, EndsEarly, TenthTooLarge}
-use Rattle.number.specs.declared.Found.{Found}
 use Rattle.event.specs.Table.{known_in_trace}
 use Rattle.event.specs.declared.ShelfEvent.{ShelfEvent}
 use Rattle.trace.specs.Writing.{wrote, refused, length_given}
@@ -17,11 +16,7 @@ use Rattle.shelf.specs.Reading.{ToldShelf, shelf_event, shelf_end, shelf_refused
 use Rattle.shelf.specs.Reading.{shelf_reached, tells_shelf}
 use Rattle.shelf.specs.Writing.{shelf_bytes, shelf_trace_bytes, write_shelf, shelf_after}
 use Rattle.shelf.specs.Promises.{ReadsShelf, ReachesShelf, WritesShelf, TakesShelf}
-use Rattle.trace.specs.declared.Fault.{Fault}
-
--- what `event_at` gives
-abbrev pub ShelfRead : Type 0
-ShelfRead = Result (Option (Found ShelfEvent)) Fault
+use Rattle.trace.specs.Reading.{ReadOf}
 
 -- ---- results are determined (proofs/Determined)
 
@@ -29,13 +24,13 @@ ShelfRead = Result (Option (Found ShelfEvent)) Fault
 pub record Determined : Type 0 where
   pub read_once : TellsOnce tells_shelf
   pub event_at : (s : List ℕ) (place : ℕ) → Determines (ReadsShelf s place)
-  pub place_reached : (read : ShelfRead) (place : ℕ) → Determines (ReachesShelf read place)
+  pub place_reached : (read : ReadOf ShelfEvent) (place : ℕ) → Determines (ReachesShelf read place)
   pub write_event : (e : ShelfEvent) (before : List ℕ) (place : ℕ) → DeterminesLent (WritesShelf e before place)
   pub next : (before : Reader) → DeterminesLent (TakesShelf before)
 
 -- `place_reached` of `trace` meets the contract of an event on a shelf
 abbrev pub ReachesTold : Type 0
-ReachesTold = (read : ShelfRead) (place r : ℕ) → ReachesPlace read place r → ReachesShelf read place r
+ReachesTold = (read : ReadOf ShelfEvent) (place r : ℕ) → ReachesPlace read place r → ReachesShelf read place r
 
 -- ---- one event (proofs/RoundTrip, proofs/Accepted)
 
@@ -190,7 +185,7 @@ ReadsOnce =
 -- ---- calls of a reader (proofs/Calls)
 
 -- a fault is told with the reader's place, its event is zero, and the reader is as it was
-pub record KeptAtFault (before : Reader) (r : ShelfRead) (at : ℕ) (after : Reader) : Type 0 where
+pub record KeptAtFault (before : Reader) (r : ReadOf ShelfEvent) (at : ℕ) (after : Reader) : Type 0 where
   pub first : at ≡ before.place
   pub zeros : shelf_given (tells_shelf r) ≡ zero_shelf
   pub stays : after ≡ before
@@ -198,39 +193,41 @@ pub record KeptAtFault (before : Reader) (r : ShelfRead) (at : ℕ) (after : Rea
 -- a call that gives a fault gives a zero event and does not move the reader
 abbrev pub FaultStays : Type 0
 FaultStays =
-    (before : Reader) (r : ShelfRead) (after : Reader) (n at : ℕ)
+    (before : Reader) (r : ReadOf ShelfEvent) (after : Reader) (n at : ℕ)
     → TakesShelf before r after → tells_shelf r ≡ shelf_refused n at → KeptAtFault before r at after
 
 -- calls of `next`, one after the other, take a reader to another; their results are listed
-pub data ShelfCalls : Reader → List ShelfRead → Reader → Type 0 where
+pub data ShelfCalls : Reader → List (ReadOf ShelfEvent) → Reader → Type 0 where
   uncalled : {reader : Reader} → ShelfCalls reader [] reader
   called :
-      {before middle after : Reader} {r : ShelfRead} {rs : List ShelfRead}
+      {before middle after : Reader} {r : ReadOf ShelfEvent} {rs : List (ReadOf ShelfEvent)}
       → TakesShelf before r middle → ShelfCalls middle rs after → ShelfCalls before (r ∷ rs) after
 
 -- each later result is the same, its event is zero, and the reader is as it was
-pub record Stopped (before : Reader) (r : ShelfRead) (rs : List ShelfRead) (after : Reader) : Type 0 where
-  pub same : rs ≡ replicate (length rs) r
-  pub zeros : shelf_given (tells_shelf r) ≡ zero_shelf
-  pub stays : after ≡ before
+pub record Stopped (before : Reader) (r : ReadOf ShelfEvent) (rs : List (ReadOf ShelfEvent)) (after : Reader) : Type 0
+  where
+    pub same : rs ≡ replicate (length rs) r
+    pub zeros : shelf_given (tells_shelf r) ≡ zero_shelf
+    pub stays : after ≡ before
 
 -- once a call gives no event, no later call gives anything else or moves the reader
 abbrev pub StaysPut : Type 0
 StaysPut =
-    (before after : Reader) (r : ShelfRead) (rs : List ShelfRead) → ShelfCalls before (r ∷ rs) after
+    (before after : Reader) (r : ReadOf ShelfEvent) (rs : List (ReadOf ShelfEvent)) → ShelfCalls before (r ∷ rs) after
     → ((e : ShelfEvent) (next : ℕ) → tells_shelf r ≡ shelf_event e next → ⊥) → Stopped before r rs after
 
 -- k results are the first k events of a list that stands at a place, and the others stand from the reader's place on
-pub record FirstGiven
-    (s : List ℕ) (place : ℕ) (es : List ShelfEvent) (last : ℕ) (rs : List ShelfRead) (after : Reader) : Type 0 where
-  pub events : map (λ r. shelf_given (tells_shelf r)) rs ≡ take (length rs) es
-  pub passed : ShelfPasses s place (take (length rs) es) after.place
-  pub others : ShelfPasses s after.place (drop (length rs) es) last
+pub record FirstGiven (s : List ℕ) (place : ℕ) (es : List ShelfEvent) (last : ℕ) (rs : List (ReadOf ShelfEvent))
+    (after : Reader) : Type 0
+  where
+    pub events : map (λ r. shelf_given (tells_shelf r)) rs ≡ take (length rs) es
+    pub passed : ShelfPasses s place (take (length rs) es) after.place
+    pub others : ShelfPasses s after.place (drop (length rs) es) last
 
 -- k calls of a new reader give the first k events of the trace, whatever stands behind these
 abbrev pub FirstEvents : Type 0
 FirstEvents =
-    (trace : Bor (List ℕ)) (start after : Reader) (es : List ShelfEvent) (last : ℕ) (rs : List ShelfRead)
+    (trace : Bor (List ℕ)) (start after : Reader) (es : List ShelfEvent) (last : ℕ) (rs : List (ReadOf ShelfEvent))
     → StartsReader trace start → ShelfPasses trace.now 0 es last → ShelfCalls start rs after
     → length rs ≤ length es → FirstGiven trace.now 0 es last rs after
 

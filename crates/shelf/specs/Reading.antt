@@ -1,13 +1,11 @@
 -- Reading an event of a shelf trace: the number of its phy, and behind it the event as in a trace of one phy.
-use Rattle.std.specs.Prelude.{ℕ, List, [], Option, Some, None, Result, Ok, Err, leb, length}
+use Rattle.std.specs.Prelude.{ℕ, List, [], Some, None, Ok, Err, leb, length}
 use Rattle.table.specs.Choice.{pick}
 use Rattle.table.specs.Refusals.{number_of}
 use Rattle.number.specs.Reading.{read_number}
-use Rattle.number.specs.declared.Found.{Found}
 use Rattle.event.specs.Table.{event_of}
 use Rattle.event.specs.declared.ShelfEvent.{ShelfEvent}
-use Rattle.trace.specs.Reading.{Got, got, fault, onwards, of_number, read_numbers}
-use Rattle.trace.specs.declared.Fault.{Fault}
+use Rattle.trace.specs.Reading.{ReadOf, Got, got, fault, onwards, of_number, read_numbers}
 
 -- what reading says: an event and the place after it, the trace's end, or a refusal and where its phy number starts
 pub data ToldShelf : Type 0 where
@@ -47,7 +45,7 @@ shelf_reached place shelf_end = place
 shelf_reached place (shelf_refused n at) = place
 
 -- what each result says, as the paper numbers it
-abbrev pub tells_shelf : Result (Option (Found ShelfEvent)) Fault → ToldShelf
+abbrev pub tells_shelf : ReadOf ShelfEvent → ToldShelf
 tells_shelf (Ok (Some found)) = shelf_event found.value found.next
 tells_shelf (Ok None) = shelf_end
 tells_shelf (Err f) = shelf_refused (number_of f.refusal) f.place

@@ -3,50 +3,65 @@
 // its kind; the expected output is made by the reference alone.
 #![tactic(auto)]
 
-ghost use Rattle.casefile.specs.Promises.{EndsWithin};
+ghost use Rattle.shelf_cases.specs.Kinds.{NamesKind};
 
 mod events;
 mod ports;
 mod runs;
 mod walks;
 
-use casefile::{BUFFER, Place, START, next_case, take};
-use output::write_out;
+use casefile::{BUFFER, Cases, Input, take_all};
+use output::Text;
 
-const READ_EVENT: u64 = 12;
+// What a case is of.
+#[derive(Clone, Copy)]
+enum Kind {
+    ReadEvent,
+    WriteEvent,
+    PortWalk,
+    Runs,
+}
 
-const WRITE_EVENT: u64 = 13;
+// No case of this program has this number.
+#[derive(Clone, Copy)]
+struct UnknownKind;
 
-const PORT_WALK: u64 = 14;
+impl TryFrom<u64> for Kind {
+    type Error = UnknownKind;
 
-const RUNS: u64 = 15;
+    ghost try_from_gives = { NamesKind };
 
-// The case at a place. An unknown kind ends the run: nothing after it could be told apart.
-fn one_case(rt: &(impl Print + Eprint), s: &[u8], place: usize, out: &mut [u8], n: usize) -> Place
-    ensures { EndsWithin s.now result }
-{
-    let kind = take(s, place);
-    let next = kind.next;
-    let code = kind.value;
-    match code {
-        READ_EVENT => events::read_case(rt, s, code, next, out, n),
-        WRITE_EVENT => events::write_case(rt, s, code, next, out, n),
-        PORT_WALK => walks::walk_case(rt, s, code, next, out, n),
-        RUNS => runs::run_case(rt, s, code, next, out, n),
-        _ => Place { next: s.len(), n },
+    fn try_from(number: u64) -> Result<Kind, UnknownKind> {
+        match number {
+            12 => Ok(Kind::ReadEvent),
+            13 => Ok(Kind::WriteEvent),
+            14 => Ok(Kind::PortWalk),
+            15 => Ok(Kind::Runs),
+            _ => Err(UnknownKind),
+        }
     }
 }
 
-// In the first turn nothing is ahead yet: no case is there to take.
-fn main(rt: HostRuntime) {
-    let mut input = rt.stdin();
-    let mut window = [0u8; BUFFER];
-    let mut out = [0u8; BUFFER];
-    let mut turn = START;
-    while 0 < turn.left {
-        let to = turn.to;
-        let at = one_case(&rt, &window[0..to], turn.from, &mut out, turn.n);
-        turn = next_case(&mut input, &mut window, turn, at);
+// The cases of this program.
+struct ShelfCases;
+
+impl Cases for ShelfCases {
+    fn take_case(rt: &(impl Print + Eprint), kind: u64, input: &mut Input, text: &mut Text) {
+        let Ok(known) = Kind::try_from(kind) else {
+            input.place = input.s.len();
+            return;
+        };
+        match known {
+            Kind::ReadEvent => events::read_case(rt, kind, input, text),
+            Kind::WriteEvent => events::write_case(rt, kind, input, text),
+            Kind::PortWalk => walks::walk_case(rt, kind, input, text),
+            Kind::Runs => runs::run_case(rt, kind, input, text),
+        }
     }
-    write_out(&rt, &out, turn.n, 0);
+}
+
+fn main(rt: HostRuntime) {
+    let mut out = [0u8; BUFFER];
+    let mut text = Text::new(&mut out);
+    take_all::<ShelfCases>(&rt, &mut rt.stdin(), &mut text);
 }

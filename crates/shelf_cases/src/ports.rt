@@ -1,127 +1,91 @@
 // Ports of a case: the count of bays, the bays, the length of the queue, its numbers.
-ghost use Rattle.std.specs.Prelude.{◌≤◌, max, length};
-ghost use Rattle.held.specs.Rows.{most_held};
+ghost use Rattle.std.specs.Prelude.{◌≤◌, length};
+ghost use Rattle.casefile.specs.Promises.{EndsWithin};
+ghost use Rattle.held.specs.Rows.{most_held, front};
+ghost use Rattle.held.specs.Promises.{StepsRow};
+ghost use Rattle.shelf_run.specs.Promises.{Runs};
 
 use bay::Bay;
-use casefile::{PHY_NUMBERS, phy_numbers, phy_of, take, take_many};
-use held::{MOST_HELD, Row, fresh_row};
-use output::{end_line, put_line, put_more, put_numbers};
+use casefile::{Input, PHY_NUMBERS, phy_numbers, phy_of};
+use event::ShelfEvent;
+use held::{MOST_HELD, Row};
+use output::Text;
+use port::Stepped;
+use shelf_run::Ran;
 
 // One more than a queue may have.
 pub(crate) const MOST_QUEUE: usize = queue::LENGTH + 1;
 
-// The numbers of a bay behind those of its phy.
-const CLOCK: usize = 2;
-
-// A bay, and the place after it.
-#[derive(Clone, Copy)]
-struct BayTaken {
-    bay: Bay,
-    next: usize,
-}
-
-// A row of bays, and the place after it.
-#[derive(Clone, Copy)]
-struct RowTaken {
-    row: Row,
-    next: usize,
-}
-
-// A row and how many of its bays count, how many numbers the queue has, and the place after them.
-#[derive(Clone, Copy)]
-pub(crate) struct PortTaken {
-    pub(crate) row: Row,
-    pub(crate) count: usize,
-    pub(crate) length: usize,
-    pub(crate) next: usize,
-}
-
-fn least(a: usize, b: usize) -> usize
-    ensures { result ≤ b }
-{
-    if a < b { a } else { b }
-}
-
-fn take_bay(s: &[u8], place: usize) -> BayTaken
-    ensures { result.next ≤ max place (length s.now) }
-{
-    let mut fields = [0u64; PHY_NUMBERS];
-    let behind = take_many(s, place, &mut fields);
-    let mut clock = [0u64; CLOCK];
-    let next = take_many(s, behind, &mut clock);
-    BayTaken {
-        bay: Bay {
-            phy: phy_of(fields),
-            base: clock[0],
-            baseSet: clock[1],
-        },
-        next,
-    }
-}
-
-// The bays behind the count are fresh, and are never lent.
-fn take_row(s: &[u8], place: usize, count: usize) -> RowTaken
-    requires { count ≤ most_held }
-    ensures { result.next ≤ max place (length s.now) }
-{
-    let mut row = fresh_row();
-    let mut next = place;
-    let mut i = 0;
-    while i < count {
-        let taken = take_bay(s, next);
-        let bay = taken.bay;
-        row.bays[i] = bay;
-        next = taken.next;
-        i += 1;
-    }
-    RowTaken { row, next }
-}
-
-// The port at a place, its queue in the lent one.
-pub(crate) fn take_port(s: &[u8], place: usize, queue: &mut [u64]) -> PortTaken
-    ensures count_le_most_held { result.count ≤ most_held }
-    ensures length_in_bounds { result.length ≤ length queue.new }
-    ensures next_in_bounds { result.next ≤ length s.now }
-{
-    let bays = take(s, place);
-    let count = least(bays.value as usize, MOST_HELD);
-    let taken = take_row(s, bays.next, count);
-    let held = take(s, taken.next);
-    let length = least(held.value as usize, queue.len());
-    let next = take_many(s, held.next, &mut queue[0..length]);
-    let row = taken.row;
-    PortTaken {
-        row,
-        count,
-        length,
-        next,
-    }
-}
-
-fn put_bay(rt: &(impl Print + Eprint), out: &mut [u8], n: usize, kind: u64, bay: Bay) -> usize {
-    let fields = phy_numbers(bay.phy);
-    let clock: [u64; CLOCK] = [bay.base, bay.baseSet];
-    let head = put_numbers(out, n, kind, &fields);
-    let end = put_more(out, head, &clock);
-    end_line(rt, out, end)
-}
-
-// A line for each bay that counts, and one for the queue.
-pub(crate) fn put_port(
-    rt: &(impl Print + Eprint),
-    out: &mut [u8],
-    n: usize,
-    kind: u64,
+// The first bays of a row, as many as count, make the port; those behind them are fresh, and are never lent. The
+// count stands beside the row, since `StepsRow` of `held` speaks of every bay of it.
+#[derive(Drop)]
+pub(crate) struct Port<'a> {
     row: Row,
     count: usize,
-    queue: &[u64],
-) -> usize {
-    let shown = least(count, MOST_HELD);
-    let mut end = n;
-    let mut i = 0;
-    while i < shown {
-        end = put_bay(rt, out, end, kind, row.bays[i]);
-        i += 1;
+    queue: &'a mut [u64],
+    ghost few: { count ≤ most_held },
+}
+
+// phy, base, flag of the base
+fn take_bay(input: &mut Input) -> Bay
+    ensures { EndsWithin input.old input.new }
+{
+    let mut fields = [0u64; PHY_NUMBERS];
+    input.take_many(&mut fields);
+    Bay {
+        phy: phy_of(fields),
+        base: input.take(),
+        baseSet: input.take(),
     }
-    put_line(rt, out, end, kind, queue)
+}
+
+fn put_bay(rt: &(impl Print + Eprint), kind: u64, bay: Bay, text: &mut Text) {
+    text.put_numbers(kind, &phy_numbers(bay.phy));
+    text.put_more(&[bay.base, bay.baseSet]);
+    text.end_line(rt);
+}
+
+impl<'a> Port<'a> {
+    // The next port, its queue in the lent room.
+    pub(crate) fn take(input: &mut Input, room: &'a mut [u64]) -> Port<'a>
+        ensures ends_within { EndsWithin input.old input.new }
+        ensures in_room { length result.queue.now ≤ length room.old }
+    {
+        let count = (input.take() as usize).min(MOST_HELD);
+        let mut row = Row::fresh();
+        for bay in &mut row.bays[..count] {
+            *bay = take_bay(input);
+        }
+        let length = (input.take() as usize).min(room.len());
+        let queue = &mut room[..length];
+        input.take_many(queue);
+        Port { row, count, queue }
+    }
+
+    // An event comes to the port.
+    pub(crate) fn step(&mut self, e: ShelfEvent) -> Stepped
+        ensures { StepsRow self.old.row.bays self.old.count self.old.queue.now e.number e.event result
+            self.new.row.bays self.new.queue.now }
+    {
+        self.row.step(self.count, self.queue, e.number, e.event)
+    }
+
+    // A run over the port. A copy is lent, since a proof knows nothing of an array in a field of which a part was lent.
+    pub(crate) fn run(&mut self, trace: &[u8], budget: usize, buffer: &mut [u8]) -> Ran
+        ensures { Runs (front self.old.count self.old.row.bays) self.old.queue.now trace.now budget buffer.old result
+            (front self.old.count self.new.row.bays) self.new.queue.now buffer.new }
+    {
+        let mut bays = self.row.bays;
+        let ran = shelf_run::run(&mut bays[..self.count], self.queue, trace, budget, buffer);
+        self.row = Row { bays };
+        ran
+    }
+
+    // A line for each bay that counts, and one for the queue.
+    pub(crate) fn put(&self, rt: &(impl Print + Eprint), kind: u64, text: &mut Text) {
+        for bay in &self.row.bays[..self.count] {
+            put_bay(rt, kind, *bay, text);
+        }
+        text.put_line(rt, kind, self.queue);
+    }
 }

@@ -9,7 +9,7 @@ ghost use Rattle.shelf_listing.specs.Promises.{Freshly, Turns};
 
 use event::ShelfEvent;
 use event_line::{columns_of, put_event, states_at};
-use held::{Row, fresh_row, step_row};
+use held::Row;
 use lines::{Listed, Listing, Progress};
 use number::Found;
 use output::Text;
@@ -57,7 +57,7 @@ pub fn fresh(phys: usize) -> Shelf
     ensures { Freshly phys result }
 {
     Shelf {
-        row: fresh_row(),
+        row: Row::fresh(),
         phys,
         queue: [0; queue::LENGTH],
     }
@@ -68,10 +68,9 @@ fn turned(shelf: Shelf, event: ShelfEvent) -> Turn
 {
     let number = event.number;
     let phys = shelf.phys;
+    let mut row = shelf.row;
     let mut queue = shelf.queue;
-    let r = step_row(shelf.row, phys, &mut queue, number, event.event);
-    let row = r.row;
-    let stepped = r.stepped;
+    let stepped = row.step(phys, &mut queue, number, event.event);
     let held = queue::judged(&queue);
     let states = states_at(row, phys, number);
     Turn {

@@ -3,12 +3,12 @@
 ghost use Rattle.std.specs.Prelude.{◌≤◌, ◌≡◌, length};
 ghost use Rattle.run.specs.Running.{tells_stop};
 ghost use Rattle.shelf_run.specs.Running.{unset as running_unset, spent_at, ran as running_ran};
-ghost use Rattle.shelf_run.specs.Stages.{empty as stages_empty, all_unset, byte_in, gone};
+ghost use Rattle.shelf_run.specs.Stages.{empty as stages_empty, all_unset, gone};
 ghost use Rattle.shelf_run.specs.Promises.{TakesEvents, GoesOver};
 
 use crate::{Gone, Ran, Table};
 use bay::Bay;
-use port::{MOST_PHYS, Scan, Standing, Stepped};
+use port::{MOST_PHYS, Scan, Standing};
 use replies::StopReply;
 use run::Stop;
 use table::{OFF, Refusal};
@@ -42,18 +42,6 @@ fn all_unset(table: Table) -> Table
     Table {
         bays: table.bays.map(unset),
     }
-}
-
-// The byte of an event: the refusal, or else the answer, or else 0. All of them are bytes.
-fn byte_in(stepped: Stepped) -> u8
-    ensures { result ≡ byte_in stepped.reports }
-{
-    let reports = stepped.reports;
-    let answer = reports.answer;
-    if reports.refusal == 0 {
-        return (answer.code % 256) as u8;
-    }
-    (reports.refusal % 256) as u8
 }
 
 fn stopped(table: Table, count: usize, stop: Stop) -> Gone
@@ -104,7 +92,8 @@ fn take_events(
                 let own = if held { table.bays[at] } else { bay::fresh() };
                 let taken = port::take(stands, own, queue, event.number, event.event);
                 let bay = taken.bay;
-                buffer[count] = byte_in(taken.stepped);
+                let reports = taken.stepped.reports;
+                buffer[count] = run::byte_for(reports.refusal, reports.answer.code);
                 if held {
                     table.bays[at] = bay;
                 }

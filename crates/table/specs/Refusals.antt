@@ -1,8 +1,9 @@
 -- The numbers of refusal, in the paper's order. 0 says that nothing is refused.
 use Rattle.std.specs.Prelude.{ℕ}
 use Rattle.table.specs.declared.Refusal.{Refusal}
-use Rattle.table.specs.declared.Refusal.TheVariants.{BadState, BadEvent, Busy, NothingPending, NotConnected, WrongProtocol}
-use Rattle.table.specs.declared.Refusal.TheVariants.{Cut, Overlong, TooLarge, NoRoom, QueueFull, NoSuchPhy}
+use Rattle.table.specs.declared.Refusal.TheVariants.{BadState, BadEvent, Busy, NothingPending, NotConnected}
+use Rattle.table.specs.declared.Refusal.TheVariants.{WrongProtocol, Cut, Overlong, TooLarge, NoRoom, QueueFull}
+use Rattle.table.specs.declared.Refusal.TheVariants.{NoSuchPhy}
 
 -- the state handed in is not a valid one
 abbrev pub bad_state : ℕ

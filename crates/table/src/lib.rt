@@ -5,7 +5,7 @@
 ghost use Rattle.std.specs.Prelude.{◌≡◌};
 ghost use Rattle.table.specs.Refusals.{number_of};
 
-// A refusal; `as u64` gives the paper's number.
+// Why something is refused, with the paper's number.
 #[derive(Clone, Copy, Debug, PartialEq, Eq)]
 pub enum Refusal {
     BadState = 1,
@@ -35,28 +35,3 @@ impl From<Refusal> for u64 {
 pub const OFF: u64 = 0;
 
 pub const ON: u64 = 1;
-
-// The same as numbers: these go once no crate names them.
-pub const BAD_STATE: u64 = 1;
-
-pub const BAD_EVENT: u64 = 2;
-
-pub const BUSY: u64 = 3;
-
-pub const NOTHING_PENDING: u64 = 4;
-
-pub const NOT_CONNECTED: u64 = 5;
-
-pub const WRONG_PROTOCOL: u64 = 6;
-
-pub const CUT: u64 = 7;
-
-pub const OVERLONG: u64 = 8;
-
-pub const TOO_LARGE: u64 = 9;
-
-pub const NO_ROOM: u64 = 10;
-
-pub const QUEUE_FULL: u64 = 11;
-
-pub const NO_SUCH_PHY: u64 = 12;

@@ -9,9 +9,9 @@ use denote.Ref.{Bor}
 use Rattle.table.proofs.Laws.{apart}
 use Rattle.event.specs.Table.{event_of}
 use Rattle.event.specs.declared.Event.{Event}
-use Rattle.trace.specs.Reading.{Told, event, end, refused, read_event, event_given, place_reached, tells}
+use Rattle.trace.specs.Reading.{ReadOf, Told, event, end, refused, read_event, event_given, place_reached, tells}
 use Rattle.trace.specs.Promises.{ReadsEvent, TakesNext}
-use Rattle.trace.specs.Laws.{Read, Passes, here, on, ReadsAll, ended, taken, Calls, uncalled, called, GivesEvents, nothing, given, FaultStays, StaysPut, FirstEvents, CalledBack}
+use Rattle.trace.specs.Laws.{Passes, here, on, ReadsAll, ended, taken, Calls, uncalled, called, GivesEvents, nothing, given, FaultStays, StaysPut, FirstEvents, CalledBack}
 use Rattle.std.specs.Prelude.{Some, Ok}
 use Rattle.trace.specs.declared.Reader.{Reader}
 use Rattle.trace.proofs.Determined.{read_once, determined}
@@ -38,7 +38,7 @@ zero_given end n = refl
 zero_given (refused k at) n = refl
 
 -- the reader stands still
-still : {before : Reader} (r : Read) {after : Reader} → TakesNext before r after → NoEvent (tells r) → after ≡ before
+still : {before : Reader} (r : ReadOf Event) {after : Reader} → TakesNext before r after → NoEvent (tells r) → after ≡ before
 still {before} r t n = t.leaves ∙ ap (λ (place : ℕ). record { trace = before.trace; place = place }) (ap (place_reached before.place) (sym t.says) ∙ no_move (tells r) n before.place)
 
 pub fault_stays : FaultStays
@@ -50,13 +50,13 @@ fault_stays before r after n at t e =
       stays = still r t none;
     }
 
-again : {before after : Reader} (r : Read) (rs : List Read) → ReadsEvent before.trace.now before.place r → NoEvent (tells r) → Calls before rs after
+again : {before after : Reader} (r : ReadOf Event) (rs : List (ReadOf Event)) → ReadsEvent before.trace.now before.place r → NoEvent (tells r) → Calls before rs after
     → (rs ≡ replicate (length rs) r) × (after ≡ before)
 again r [] e n uncalled = (refl, refl)
 again {before} {after} r (q ∷ rs) e n (called t c) =
     let same : q ≡ r = determined.event_at before.trace.now before.place q r t.says e in
     let more = again r rs e n (subst (λ (m : Reader). Calls m rs after) (still q t (rw same n)) c) in
-    (ap₂ (λ (x : Read) (l : List Read). x ∷ l) same more.0, more.1)
+    (ap₂ (λ (x : ReadOf Event) (l : List (ReadOf Event)). x ∷ l) same more.0, more.1)
 
 pub stays_put : StaysPut
 stays_put before after r rs (called t c) n =
@@ -65,12 +65,12 @@ stays_put before after r rs (called t c) n =
 
 -- ---- events
 
-events_of : {s : List ℕ} {place : ℕ} {rs : List Read} {es : List Event} {last : ℕ} → GivesEvents s place rs es last → map (λ r. event_given (tells r)) rs ≡ es
+events_of : {s : List ℕ} {place : ℕ} {rs : List (ReadOf Event)} {es : List Event} {last : ℕ} → GivesEvents s place rs es last → map (λ r. event_given (tells r)) rs ≡ es
 events_of nothing = refl
 events_of (given {e} h g) = ap (λ (l : List Event). e ∷ l) (events_of g)
 
 first_from :
-    (rs : List Read) {start after : Reader} {es : List Event} {last : ℕ}
+    (rs : List (ReadOf Event)) {start after : Reader} {es : List Event} {last : ℕ}
     → Passes start.trace.now start.place es last → Calls start rs after → length rs ≤ length es
     → GivesEvents start.trace.now start.place rs (take (length rs) es) after.place
     × Passes start.trace.now after.place (drop (length rs) es) last
@@ -100,7 +100,7 @@ passed (taken e r) = let p = passed r in record { last = p.last; passes = on e p
 no_more : {s : List ℕ} {place last : ℕ} → Passes s place [] last → place ≡ last
 no_more here = refl
 
-trace_kept : {start after : Reader} {rs : List Read} → Calls start rs after → after.trace ≡ start.trace
+trace_kept : {start after : Reader} {rs : List (ReadOf Event)} → Calls start rs after → after.trace ≡ start.trace
 trace_kept uncalled = refl
 trace_kept (called t c) = trace_kept c ∙ ap (λ (m : Reader). m.trace) t.leaves
 

@@ -5,20 +5,20 @@ use Rattle.std.specs.Prelude.{Some, None, Result, Ok, Err}
 use Rattle.table.specs.Results.{TellsOnce}
 use Rattle.table.specs.declared.Refusal.{Refusal}
 use Rattle.table.proofs.Results.{leads_back, refusal_of, refusal_back, by_telling, by_equation, with_lent}
-use Rattle.trace.specs.Reading.{Told, event, end, tells}
+use Rattle.event.specs.declared.Event.{Event}
+use Rattle.trace.specs.Reading.{ReadOf, Told, event, end, tells}
 use Rattle.trace.specs.Reading as reading
 use Rattle.trace.specs.Writing.{ToldWritten, wrote, tells_written}
 use Rattle.trace.specs.Writing as writing
-use Rattle.trace.specs.Laws.{Read, Determined, ReachesTold}
-use Rattle.trace.specs.declared.Fault.{Fault}
+use Rattle.trace.specs.Laws.{Determined, ReachesTold}
 
 -- what is said tells which result said it
-answer : Told → Read
+answer : Told → ReadOf Event
 answer (event e next) = Ok (Some (record { value = e; next = next }))
 answer end = Ok None
 answer (reading.refused n at) = Err (record { refusal = refusal_of n; place = at })
 
-answers : (r : Read) → answer (tells r) ≡ r
+answers : (r : ReadOf Event) → answer (tells r) ≡ r
 unfolding answer
 answers (Ok (Some found)) = refl
 answers (Ok None) = refl

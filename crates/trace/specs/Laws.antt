@@ -1,6 +1,6 @@
 -- What is promised of events of a trace beyond the contracts. A heading names the files of proofs/.
 use Rattle.std.specs.Prelude.{ℕ, ◌+◌, ◌≤◌, ◌<◌, true, false, List, [], ◌∷◌}
-use Rattle.std.specs.Prelude.{Option, Some, Result, Ok, map, ◌↔◌, ◌⊎◌, ◌≡◌, length, take, drop, replicate}
+use Rattle.std.specs.Prelude.{Some, Ok, map, ◌↔◌, ◌⊎◌, ◌≡◌, length, take, drop, replicate}
 use Rattle.std.proofs.lemmas.List.Edits.{sets}
 use Rattle.std.specs.Borrow.{Bor}
 use Rattle.table.specs.Refusals.{bad_event, cut, too_large, no_room}
@@ -8,22 +8,16 @@ use Rattle.table.specs.Results.{TellsOnce, Determines, DeterminesLent}
 use Rattle.number.specs.Reading.{value, read_number}
 use Rattle.number.specs.Reading as number
 use Rattle.number.specs.Laws.{EndsEarly, TenthTooLarge}
-use Rattle.number.specs.declared.Found.{Found}
 use Rattle.event.specs.Table.{event_of, arguments_of, within, code_in_trace, known_of, known_in_trace, trace_codes}
 use Rattle.event.specs.Laws.{IsStamp}
 use Rattle.event.specs.declared.Event.{Event}
 use Rattle.event.specs.declared.Range.{Range}
-use Rattle.trace.specs.Reading.{event, end, read_event, event_given, place_reached, tells, reached}
+use Rattle.trace.specs.Reading.{ReadOf, event, end, read_event, event_given, place_reached, tells, reached}
 use Rattle.trace.specs.Reading as reading
 use Rattle.trace.specs.Writing.{wrote, event_bytes, trace_bytes, write_event, buffer_after, length_given, tells_written}
 use Rattle.trace.specs.Writing as writing
 use Rattle.trace.specs.Promises.{ReadsEvent, ReachesPlace, WritesEvent, StartsReader, TakesNext}
-use Rattle.trace.specs.declared.Fault.{Fault}
 use Rattle.trace.specs.declared.Reader.{Reader}
-
--- what `event_at` gives
-abbrev pub Read : Type 0
-Read = Result (Option (Found Event)) Fault
 
 -- ---- results are determined (proofs/Determined)
 
@@ -32,14 +26,14 @@ pub record Determined : Type 0 where
   pub read_once : TellsOnce tells
   pub written_once : TellsOnce tells_written
   pub event_at : (s : List ℕ) (place : ℕ) → Determines (ReadsEvent s place)
-  pub place_reached : (read : Read) (place : ℕ) → Determines (ReachesPlace read place)
+  pub place_reached : (read : ReadOf Event) (place : ℕ) → Determines (ReachesPlace read place)
   pub write_event : (e : Event) (before : List ℕ) (place : ℕ) → DeterminesLent (WritesEvent e before place)
   pub new : (trace : Bor (List ℕ)) → Determines (StartsReader trace)
   pub next : (before : Reader) → DeterminesLent (TakesNext before)
 
 -- `place_reached` of an event read is the place that what is told of it reaches
 abbrev pub ReachesTold : Type 0
-ReachesTold = (read : Read) (place : ℕ) → reached place read ≡ place_reached place (tells read)
+ReachesTold = (read : ReadOf Event) (place : ℕ) → reached place read ≡ place_reached place (tells read)
 
 -- ---- one event (proofs/RoundTrip, proofs/Accepted)
 
@@ -264,7 +258,7 @@ WritableExactly =
 -- ---- calls of a reader (proofs/Calls)
 
 -- a fault is told with the reader's place, its event is zero, and the reader is as it was
-pub record KeptAtFault (before : Reader) (r : Read) (at : ℕ) (after : Reader) : Type 0 where
+pub record KeptAtFault (before : Reader) (r : ReadOf Event) (at : ℕ) (after : Reader) : Type 0 where
   pub first : at ≡ before.place
   pub zeros : event_given (tells r) ≡ event_of 0 []
   pub stays : after ≡ before
@@ -272,18 +266,18 @@ pub record KeptAtFault (before : Reader) (r : Read) (at : ℕ) (after : Reader) 
 -- a call that gives a fault gives a zero event and does not move the reader
 abbrev pub FaultStays : Type 0
 FaultStays =
-    (before : Reader) (r : Read) (after : Reader) (n at : ℕ)
+    (before : Reader) (r : ReadOf Event) (after : Reader) (n at : ℕ)
     → TakesNext before r after → tells r ≡ reading.refused n at → KeptAtFault before r at after
 
 -- calls of `next`, one after the other, take a reader to another; their results are listed
-pub data Calls : Reader → List Read → Reader → Type 0 where
+pub data Calls : Reader → List (ReadOf Event) → Reader → Type 0 where
   uncalled : {reader : Reader} → Calls reader [] reader
   called :
-      {before middle after : Reader} {r : Read} {rs : List Read}
+      {before middle after : Reader} {r : ReadOf Event} {rs : List (ReadOf Event)}
       → TakesNext before r middle → Calls middle rs after → Calls before (r ∷ rs) after
 
 -- each later result is the same, its event is zero, and the reader is as it was
-pub record Stopped (before : Reader) (r : Read) (rs : List Read) (after : Reader) : Type 0 where
+pub record Stopped (before : Reader) (r : ReadOf Event) (rs : List (ReadOf Event)) (after : Reader) : Type 0 where
   pub same : rs ≡ replicate (length rs) r
   pub zeros : event_given (tells r) ≡ event_of 0 []
   pub stays : after ≡ before
@@ -291,27 +285,28 @@ pub record Stopped (before : Reader) (r : Read) (rs : List Read) (after : Reader
 -- once a call gives no event, no later call gives anything else or moves the reader
 abbrev pub StaysPut : Type 0
 StaysPut =
-    (before after : Reader) (r : Read) (rs : List Read)
+    (before after : Reader) (r : ReadOf Event) (rs : List (ReadOf Event))
     → Calls before (r ∷ rs) after → ((e : Event) (next : ℕ) → tells r ≡ event e next → ⊥) → Stopped before r rs after
 
 -- the results are events read end to end from a place on, each with the place after it; the last place is `last`
-pub data GivesEvents (s : List ℕ) : ℕ → List Read → List Event → ℕ → Type 0 where
+pub data GivesEvents (s : List ℕ) : ℕ → List (ReadOf Event) → List Event → ℕ → Type 0 where
   nothing : {place : ℕ} → GivesEvents s place [] [] place
   given :
-      {e : Event} {es : List Event} {rs : List Read} {place next last : ℕ}
+      {e : Event} {es : List Event} {rs : List (ReadOf Event)} {place next last : ℕ}
       → read_event s place ≡ event e next → GivesEvents s next rs es last
       → GivesEvents s place (Ok (Some (record { value = e; next = next })) ∷ rs) (e ∷ es) last
 
 -- k results are the first k events of a list, and the others stand from the reader's place on
-pub record FirstGiven (s : List ℕ) (es : List Event) (last : ℕ) (rs : List Read) (after : Reader) : Type 0 where
-  pub answers : GivesEvents s 0 rs (take (length rs) es) after.place
-  pub events : map (λ r. event_given (tells r)) rs ≡ take (length rs) es
-  pub others : Passes s after.place (drop (length rs) es) last
+pub record FirstGiven (s : List ℕ) (es : List Event) (last : ℕ) (rs : List (ReadOf Event)) (after : Reader) : Type 0
+  where
+    pub answers : GivesEvents s 0 rs (take (length rs) es) after.place
+    pub events : map (λ r. event_given (tells r)) rs ≡ take (length rs) es
+    pub others : Passes s after.place (drop (length rs) es) last
 
 -- k calls of a new reader give the first k events of the trace, whatever stands behind these
 abbrev pub FirstEvents : Type 0
 FirstEvents =
-    (trace : Bor (List ℕ)) (start after : Reader) (es : List Event) (last : ℕ) (rs : List Read)
+    (trace : Bor (List ℕ)) (start after : Reader) (es : List Event) (last : ℕ) (rs : List (ReadOf Event))
     → StartsReader trace start → Passes trace.now 0 es last → Calls start rs after → length rs ≤ length es
     → FirstGiven trace.now es last rs after
 
@@ -319,7 +314,7 @@ FirstEvents =
 abbrev pub CalledBack : Type 0
 CalledBack =
     (es : List Event) (before after : List ℕ) (last : ℕ) → WritesAll before 0 es after last
-    → (trace : Bor (List ℕ)) (start middle there : Reader) (rs : List Read) (r : Read)
+    → (trace : Bor (List ℕ)) (start middle there : Reader) (rs : List (ReadOf Event)) (r : ReadOf Event)
     → trace.now ≡ take last after → StartsReader trace start → Calls start rs middle → length rs ≡ length es
     → TakesNext middle r there
     → (map (λ q. event_given (tells q)) rs ≡ es) × (tells r ≡ end)

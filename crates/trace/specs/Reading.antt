@@ -11,6 +11,10 @@ use Rattle.event.specs.declared.Event.{Event}
 use Rattle.event.specs.declared.Range.{Range}
 use Rattle.trace.specs.declared.Fault.{Fault}
 
+-- what reading an event at a place gives, of any kind: one and the place after it, the end, or a fault
+abbrev pub ReadOf : Type 0 → Type 0
+ReadOf E = Result (Option (Found E)) Fault
+
 -- what reading says: an event and the place after it, the trace's end, or a refusal and where its event starts
 pub data Told : Type 0 where
   event : Event → ℕ → Told
@@ -73,7 +77,7 @@ place_reached place end = place
 place_reached place (refused n at) = place
 
 -- what each result says, as the paper numbers it
-abbrev pub tells : Result (Option (Found Event)) Fault → Told
+abbrev pub tells : ReadOf Event → Told
 tells (Ok (Some found)) = event found.value found.next
 tells (Ok None) = end
 tells (Err f) = refused (number_of f.refusal) f.place
@@ -84,7 +88,7 @@ tells_numbers (Ok found) = got found.value found.next
 tells_numbers (Err refusal) = fault (number_of refusal)
 
 -- the place that a result got at a place has reached, whatever is read
-abbrev pub reached : {T : Type 0} → (place : ℕ) → Result (Option (Found T)) Fault → ℕ
+abbrev pub reached : {E : Type 0} → (place : ℕ) → ReadOf E → ℕ
 reached place (Ok (Some found)) = found.next
 reached place (Ok None) = place
 reached place (Err f) = place

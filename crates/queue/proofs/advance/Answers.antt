@@ -18,7 +18,3 @@ returns-then-waiting-queue c =
     let moved : c.copy_within.new.self ≡ moved_up a.queue.now count = simp zero-add at c.copy_within.ensures.after in
     rw (c.if-waiting-queue.true, moved, zeros, n)
     (cleared a.queue.now (replicate 6 0) count _ (6 * a.waiting) (omega arith) (omega arith) (omega arith))
-
-pub returns-else-waiting-queue : goal.returns-else-waiting-queue
-unfolding advanced
-returns-else-waiting-queue c = rw c.if-waiting-queue.false

@@ -1,21 +1,13 @@
--- `run::byte_for` meets its contract: it tests what the definition tests.
-use native.Mathlib.Omega.{arith}
-use borrow.Author.Tests.{ne_eqb}
+-- `run::byte_for` meets its contract: its test is the definition's.
+use borrow.Author.Tests.{eq-eqb, ne_eqb}
 use Rattle.run.specs.Running.{byte_for}
 use Rattle.run.proofs.byte_for.Goals as goal
+use Rattle.run.proofs.byte_for.Goals.{then-refusal-eq0, else-refusal-eq0}
 
-pub overflow_cast-result : goal.overflow_cast-result
+pub returns : goal.returns
 unfolding byte_for
-overflow_cast-result c = omega (arith, c.requires.0)
-
-pub overflow_cast-result-else-refusal-eq0 : goal.overflow_cast-result-else-refusal-eq0
-unfolding byte_for
-overflow_cast-result-else-refusal-eq0 c = omega (arith, c.requires.1)
-
-pub returns-then-refusal-eq0 : goal.returns-then-refusal-eq0
-unfolding byte_for
-returns-then-refusal-eq0 c = simp c.if-refusal-eq0.true
-
-pub returns-else-refusal-eq0 : goal.returns-else-refusal-eq0
-unfolding byte_for
-returns-else-refusal-eq0 c = simp (ne_eqb, c.if-refusal-eq0.false)
+returns c =
+    elim c.if-refusal-eq0.branch [
+      | then-refusal-eq0 w ↦ rw w.told-is (simp (eq-eqb _ _ w.if-refusal-eq0.true))
+      | else-refusal-eq0 w ↦ rw w.told-is (simp (ne_eqb _ _ w.if-refusal-eq0.false))
+    ]

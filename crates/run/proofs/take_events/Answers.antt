@@ -1,6 +1,6 @@
 -- `run::take_events` meets its contract: each turn goes on to a stamp and takes it, and stops where the events before it stop.
 use native.Mathlib.Omega.{arith}
-use Rattle.run.proofs.Loop.{stage_start, stage_ready, stamp_left, stamp_room, stamp_small, stamp_on, no_more}
+use Rattle.run.proofs.Loop.{stage_start, stage_ready, stamp_left, stamp_room, stamp_on, no_more}
 use Rattle.run.proofs.take_events.Goals as goal
 
 pub loop-stamp-init : goal.loop-stamp-init
@@ -8,9 +8,6 @@ loop-stamp-init c = stage_start _ _ _ _ c.requires.valid c.requires.room
 
 pub to_stamp-gone-requires : goal.to_stamp-gone-requires
 to_stamp-gone-requires c = stage_ready c.loop-stamp.invariant
-
-pub byte_for-requires : goal.byte_for-requires
-byte_for-requires c = stamp_small c.loop-stamp.invariant c.to_stamp-gone.ensures c.in-Ok.is c.stamped-r.ensures
 
 pub bounds-buffer-gone : goal.bounds-buffer-gone
 bounds-buffer-gone c = stamp_room c.loop-stamp.invariant c.to_stamp-gone.ensures c.in-Ok.is

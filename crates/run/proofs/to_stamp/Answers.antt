@@ -3,7 +3,7 @@ use mathlib.Core.Path.{sym, ap, ◌∙◌}
 use native.Mathlib.Omega.{arith}
 use Rattle.trace.specs.Reading.{tells}
 use Rattle.trace.proofs.Refusals.{end_exactly}
-use Rattle.run.proofs.Loop.{going_start, going_room, going_small, going_on, going_spent, goes_to_stamp, goes_to_budget, goes_to_fault, goes_to_end}
+use Rattle.run.proofs.Loop.{going_start, going_room, going_on, going_spent, goes_to_stamp, goes_to_budget, goes_to_fault, goes_to_end}
 use Rattle.run.proofs.to_stamp.Goals as goal
 
 pub loop-n-init : goal.loop-n-init
@@ -11,9 +11,6 @@ loop-n-init c = going_start c.requires
 
 pub returns-then-event-eq-TIME_STAMP : goal.returns-then-event-eq-TIME_STAMP
 returns-then-event-eq-TIME_STAMP c = goes_to_stamp c.loop-n.invariant c.went.result c.loop-n-test.true (sym (rw c.in-Ok-Some.field-0-is at c.in-Ok-Some.ensures)) c.if-event-eq-TIME_STAMP.true c.went.ensures
-
-pub byte_for-requires : goal.byte_for-requires
-byte_for-requires c = going_small c.loop-n.invariant c.loop-n-test.true (sym (rw c.in-Ok-Some.field-0-is at c.in-Ok-Some.ensures)) c.if-event-eq-TIME_STAMP.false c.moved-r.ensures
 
 pub bounds-buffer-n : goal.bounds-buffer-n
 bounds-buffer-n c = going_room c.loop-n.invariant c.requires.room c.loop-n-test.true

@@ -2,4 +2,4 @@
 use Rattle.shelf_listing.proofs.fresh.Goals as goal
 
 pub returns : goal.returns
-returns c = simp c.fresh_row.ensures
+returns c = simp c.fresh.ensures

@@ -10,10 +10,10 @@ use Rattle.shelf_listing.proofs.turned.Goals as goal
 
 pub returns : goal.returns
 returns c =
-    let row : c.step_row-r.result.row.bays ≡ (step_held c.args.shelf c.args.event).next.bays ++ behind c.args.shelf.phys c.args.shelf.row.bays =
-    sym (take-append-drop (shown c.args.shelf.phys) c.step_row-r.result.row.bays)
-    ∙ ap₂ ◌++◌ c.step_row-r.ensures.steps.row_left c.step_row-r.ensures.others in
-    let steps = c.step_row-r.ensures.steps in
+    let row : c.step-stepped.new.self.bays ≡ (step_held c.args.shelf c.args.event).next.bays ++ behind c.args.shelf.phys c.args.shelf.row.bays =
+    sym (take-append-drop (shown c.args.shelf.phys) c.step-stepped.new.self.bays)
+    ∙ ap₂ ◌++◌ c.step-stepped.ensures.steps.row_left c.step-stepped.ensures.others in
+    let steps = c.step-stepped.ensures.steps in
     let states = c.states_at-states.ensures ∙ ap (λ (bays : List Bay). states_at bays c.args.event.number) steps.row_left in
     let waiting = ap (λ (j : Judgement). j.waiting) c.judged-held.ensures ∙ ap (λ (q : List ℕ). length (queue_in q)) steps.queue_left in
     record {

@@ -18,7 +18,7 @@ loop-count-preserved c =
     = elim c.if-held.branch [ then-held w ↦ w.own-is ∙ own_held c.loop-count.invariant at w.if-held.true _ | else-held w ↦ w.own-is ∙ w.fresh-own.ensures ∙ rw w.if-held.false refl ] in
     let row : c.if-held-2.table.bays ≡ puts st bays at c.take-taken.result.bay
     = elim c.if-held-2.branch [ then-held-2 w ↦ ap (λ (t : Table). t.bays) w.table-is ∙ rw w.if-held-2.true refl | else-held-2 w ↦ ap (λ (t : Table). t.bays) w.table-is ∙ rw w.if-held-2.false refl ] in
-    stage_next c.loop-count.invariant c.loop-count-test.true (sym (rw c.in-Ok-Some.field-0-is at c.in-Ok-Some.ensures)) at c.concerned-at.ensures c.if-held.own own c.take-taken.result _ c.take-taken.ensures _ c.byte_in.ensures _ row
+    stage_next c.loop-count.invariant c.loop-count-test.true (sym (rw c.in-Ok-Some.field-0-is at c.in-Ok-Some.ensures)) at c.concerned-at.ensures c.if-held.own own c.take-taken.result _ c.take-taken.ensures _ c.byte_for.ensures _ row
 
 pub returns-in-Ok-None : goal.returns-in-Ok-None
 returns-in-Ok-None c = stop_end c.loop-count.invariant c.loop-count-test.true (sym (rw c.in-Ok-None.field-0-is at c.in-Ok-None.ensures)) c.stopped.result c.stopped.ensures
