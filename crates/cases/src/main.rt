@@ -3,6 +3,8 @@
 // output is made by the reference alone.
 #![tactic(auto)]
 
+ghost use Rattle.cases.specs.Kinds.{NamesKind};
+
 mod bays;
 mod idents;
 mod numbers;
@@ -18,8 +20,8 @@ use phy::Phy;
 use syncs::Sync;
 use walks::walk_case;
 
-// The kind of a case.
-#[derive(Clone, Copy, Debug, PartialEq, Eq)]
+// What a case is of.
+#[derive(Clone, Copy)]
 enum Kind {
     ReadNumber,
     WriteNumber,
@@ -30,11 +32,13 @@ enum Kind {
 }
 
 // No case of this program has this number.
-#[derive(Clone, Copy, Debug, PartialEq, Eq)]
+#[derive(Clone, Copy)]
 struct UnknownKind;
 
 impl TryFrom<u64> for Kind {
     type Error = UnknownKind;
+
+    ghost try_from_gives = { NamesKind };
 
     fn try_from(number: u64) -> Result<Kind, UnknownKind> {
         match number {
@@ -49,24 +53,28 @@ impl TryFrom<u64> for Kind {
     }
 }
 
-// The cases of numbers, and of machines by themselves.
-struct Steps;
+// The cases of this program.
+struct MachineCases;
 
-impl Cases for Steps {
+impl Cases for MachineCases {
     fn take_case(rt: &(impl Print + Eprint), kind: u64, input: &mut Input, text: &mut Text) {
-        match Kind::try_from(kind) {
-            Ok(Kind::ReadNumber) => numbers::read_case(rt, kind, input, text),
-            Ok(Kind::WriteNumber) => numbers::write_case(rt, kind, input, text),
-            Ok(Kind::DwsWalk) => walk_case::<Sync>(rt, kind, input, text),
-            Ok(Kind::IdentifyWalk) => walk_case::<Identification>(rt, kind, input, text),
-            Ok(Kind::PhyWalk) => walk_case::<Phy>(rt, kind, input, text),
-            Ok(Kind::BayWalk) => walk_case::<Bay>(rt, kind, input, text),
-            Err(UnknownKind) => input.place = input.s.len(),
+        let Ok(known) = Kind::try_from(kind) else {
+            input.place = input.s.len();
+            return;
+        };
+        match known {
+            Kind::ReadNumber => numbers::read_case(rt, kind, input, text),
+            Kind::WriteNumber => numbers::write_case(rt, kind, input, text),
+            Kind::DwsWalk => walk_case::<Sync>(rt, kind, input, text),
+            Kind::IdentifyWalk => walk_case::<Identification>(rt, kind, input, text),
+            Kind::PhyWalk => walk_case::<Phy>(rt, kind, input, text),
+            Kind::BayWalk => walk_case::<Bay>(rt, kind, input, text),
         }
     }
 }
 
 fn main(rt: HostRuntime) {
-    let mut room = [0u8; BUFFER];
-    take_all::<Steps>(&rt, &mut rt.stdin(), &mut Text::new(&mut room));
+    let mut out = [0u8; BUFFER];
+    let mut text = Text::new(&mut out);
+    take_all::<MachineCases>(&rt, &mut rt.stdin(), &mut text);
 }

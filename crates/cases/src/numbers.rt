@@ -1,4 +1,5 @@
-// Cases of the crate `number`: reading at a place of a byte string, writing into a buffer.
+// Cases of the crate `number`: reading at a place of a byte string, writing into a buffer. Those of events in
+// `trace_cases` and `shelf_cases` take and print other numbers; what all do alike is in `casefile` and `replies`.
 ghost use Rattle.casefile.specs.Promises.{EndsWithin};
 
 use casefile::Input;
@@ -22,11 +23,11 @@ pub(crate) fn write_case(rt: &(impl Print + Eprint), kind: u64, input: &mut Inpu
 {
     let value = input.take();
     let place = input.take() as usize;
+    let before = input.take_bytes();
+    let length = before.len().min(MOST_BUFFER);
     let mut room = [0u8; MOST_BUFFER];
-    let mut before = Text::new(&mut room);
-    before.put_all(input.take_bytes());
-    let length = before.n;
     let buffer = &mut room[..length];
+    buffer.copy_from_slice(&before[..length]);
     let r = replies::write_number(value, buffer, place);
     text.put_numbers(kind, &[r.refusal, r.length as u64]);
     text.put_more(buffer);

@@ -22,7 +22,8 @@ pub(crate) fn open_numbers(o: Open) -> [u64; 6]
     ]
 }
 
-// refusal, answer, notice, sent, the answer's Open, phy
+// refusal, answer, notice, sent, the answer's Open, phy; a bay's step has a tick with each report and a clock behind
+// the phy, so that its line in `bays` shares no more than the numbers of an Open and of a phy
 fn put_stepped(rt: &(impl Print + Eprint), kind: u64, r: Stepped, text: &mut Text) {
     text.put_numbers(kind, &[r.refusal, r.answer, r.notice, r.sent]);
     text.put_more(&open_numbers(r.answered));
