@@ -11,7 +11,6 @@ determined =
       argument_count = λ code. by_equation _;
       argument_range = λ code i. by_equation _;
       open_known = λ o. by_equation _;
-      code_of = λ code. by_equation _;
       open_of = λ e. by_equation _;
       tx_open_of = λ o. by_equation _;
     }

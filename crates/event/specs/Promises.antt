@@ -1,17 +1,10 @@
 -- What each public function promises, cited by its `ensures` and by `Determined` in Laws.
-use Rattle.std.specs.Prelude.{ℕ, Bool, ◌≡◌, Result}
+use Rattle.std.specs.Prelude.{ℕ, Bool, ◌≡◌}
 use Rattle.event.specs.Table.{argument_count, argument_range, code_in_trace, known_of, known_in_trace, open_known}
 use Rattle.event.specs.Table.{open_of, tx_open_of}
-use Rattle.event.specs.Codes.{code_of}
 use Rattle.event.specs.declared.Range.{Range}
-use Rattle.event.specs.declared.code.Code.{Code}
-use Rattle.event.specs.declared.code.UnknownCode.{UnknownCode}
 use Rattle.event.specs.declared.Event.{Event}
 use Rattle.event.specs.declared.Open.{Open}
-
--- the name of a code, or that it has none
-abbrev pub NamesCode : ℕ → Result Code UnknownCode → Type 0
-NamesCode n r = r ≡ code_of n
 
 -- `known` of an event
 abbrev pub TellsKnown : Event → Bool → Type 0

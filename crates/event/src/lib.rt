@@ -2,23 +2,18 @@
 // of arguments, how many each event has and each one's range.
 #![tactic(auto)]
 
-mod code;
-
 ghost use Rattle.std.specs.Prelude.{◌≡◌, ◌&&◌, eqb, leb, [], ◌∷◌};
 ghost use Rattle.table.specs.Choice.{pick};
 ghost use Rattle.event.specs.Names.{time_stamp, most_counter};
 ghost use Rattle.event.specs.Table.{◌to◌, tx_open_arguments, open_arguments, range_at, arguments_known};
 ghost use Rattle.event.specs.Promises.{CountsArguments, GivesRange, TellsCodeInTrace, TellsKnown, TellsKnownInTrace, TellsOpenKnown, MakesOpen, MakesTxOpen};
 
-pub use code::{Code, UnknownCode};
-
 // Protocols.
 pub const SMP: u64 = 0;
 
 pub const STP: u64 = 2;
 
-// Events: numbers, as the C interface and the traces have them. The choices below are asked of any number, also of
-// one that `Code` does not name.
+// Events: numbers, as the C interface and the traces have them.
 pub const TX_OPEN: u64 = 1;
 
 pub const CANCEL_OPEN: u64 = 2;

@@ -61,7 +61,7 @@ pub fn read_number(s: &[u8], place: usize) -> Result<Found<u64>, Refusal>
     })
 }
 
-// How many bytes a value takes.
+// How many bytes a value takes. No index is counted: the loop ends with the value.
 pub fn number_length(value: u64) -> usize
     ensures { CountsBytes value result }
 {
@@ -74,7 +74,8 @@ pub fn number_length(value: u64) -> usize
     length
 }
 
-// A value's bytes at a place of a buffer, straight into it once their number is known to fit.
+// A value's bytes at a place of a buffer, straight into it once their number is known to fit. The loop ends with
+// the value too: by the length it is unrolled and dearer (docs/SPEED.md).
 pub fn write_number(value: u64, buffer: &mut [u8], place: usize) -> Result<usize, Refusal>
     ensures { WritesNumber value buffer.old place result buffer.new }
 {

@@ -1,2 +1,2 @@
-pub mod ByCode
+pub mod Counting
 pub mod Determined

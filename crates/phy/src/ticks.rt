@@ -1,5 +1,6 @@
 // What a tick does: the wait rises first, then the link state decides.
-ghost use Rattle.std.specs.Prelude.{◌≡◌};
+ghost use Rattle.std.specs.Prelude.{◌≡◌, ◌<◌, ◌≤◌, ◌-◌};
+ghost use Rattle.phy.specs.Shapes.{quiet, with_timer};
 ghost use Rattle.phy.specs.Ticks.{longer, open_failed, close_failed, opened_by, accepted, tick_selected, on_tick_aged, on_tick};
 ghost use Rattle.phy.specs.Promises.{EndsState};
 
@@ -79,18 +80,29 @@ fn tick_selected(p: Phy) -> Stepped
     to_idle(p, SENT_OPEN_REJECT)
 }
 
-// A running timer falls by one; at 0 it is over. Compiled into both its callers, which saves a tick the copy of a
-// phy.
-#[tactic(auto, unfolding(crate::specs::Ticks::on_tick_aged, crate::specs::Ticks::tick_requesting, crate::specs::Ticks::tick_closing, crate::specs::Ticks::tick_breaking))]
+// A running timer falls by one; where it is over its state ends.
+fn counts<F: Fn(Phy) -> Stepped>(p: Phy, ends: F) -> Stepped
+    requires { F.IsAlwaysCallable ends }
+    ensures ends { p.timer ≤ 1 → F.post ends p result }
+    ensures falls { 1 < p.timer → result ≡ quiet (with_timer p (p.timer - 1)) }
+{
+    if p.timer <= 1 {
+        return ends(p);
+    }
+    p.with_timer(p.timer - 1).quiet()
+}
+
+// Compiled into both its callers, which saves a tick the copy of a phy.
+#[tactic(auto, using(crate::proofs::Counting::counted), unfolding(crate::specs::Ticks::on_tick_aged, crate::specs::Ticks::tick_requesting, crate::specs::Ticks::tick_closing, crate::specs::Ticks::tick_breaking))]
 #[inline(always)]
 fn on_tick_aged(p: Phy) -> Stepped
     ensures { result ≡ on_tick_aged p }
 {
     match p.link {
-        L1 | L4 | L5 if 1 < p.timer => p.with_timer(p.timer - 1).quiet(),
-        L1 => open_failed(p),
-        L4 => close_failed(p),
-        L5 | L6 => to_idle(p, 0),
+        L1 => counts(p, open_failed),
+        L4 => counts(p, close_failed),
+        L5 => counts(p, |p| to_idle(p, 0)),
+        L6 => to_idle(p, 0),
         L2 => tick_selected(p),
         _ => p.quiet(),
     }

@@ -4,7 +4,8 @@
 
 ghost use Rattle.std.specs.Prelude.{◌≡◌};
 ghost use Rattle.replies.specs.Replies.{no_number, no_event, at_no_fault};
-ghost use Rattle.replies.specs.Promises.{ReadsNumber, WritesNumber, ReadsEvent, WritesEvent, TellsWritten, TellsStop, Runs};
+ghost use Rattle.replies.specs.Promises.{ReadsNumber, WritesNumber, ReadsEvent, WritesEvent, Runs};
+ghost use Rattle.replies.specs.Promises.{TellsWritten, TellsStop};
 
 use bay::Bay;
 use event::Event;
@@ -58,7 +59,7 @@ pub struct RunReply {
     pub stop: StopReply,
 }
 
-// How reading an event ended.
+// How reading an event ended; a number, as C callers read it, and so are all kinds and refusals here.
 pub const FOUND_EVENT: u64 = 0;
 
 const FOUND_END: u64 = 1;

@@ -73,9 +73,7 @@ fn to_stamp(
     let mut at = place;
     for n in count..budget {
         match trace::event_at(trace, at) {
-            Ok(Some(found)) => {
-                let event = found.value;
-                let next = found.next;
+            Ok(Some(Found { value: event, next })) => {
                 if event.code == TIME_STAMP {
                     let value = event.first;
                     return went(state, n, Ok(Found { value, next }));

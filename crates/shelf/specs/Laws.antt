@@ -204,11 +204,11 @@ pub data ShelfCalls : Reader → List (ReadOf ShelfEvent) → Reader → Type 0 
       → TakesShelf before r middle → ShelfCalls middle rs after → ShelfCalls before (r ∷ rs) after
 
 -- each later result is the same, its event is zero, and the reader is as it was
-pub record Stopped (before : Reader) (r : ReadOf ShelfEvent) (rs : List (ReadOf ShelfEvent)) (after : Reader) : Type 0
-  where
-    pub same : rs ≡ replicate (length rs) r
-    pub zeros : shelf_given (tells_shelf r) ≡ zero_shelf
-    pub stays : after ≡ before
+pub record Stopped
+    (before : Reader) (r : ReadOf ShelfEvent) (rs : List (ReadOf ShelfEvent)) (after : Reader) : Type 0 where
+  pub same : rs ≡ replicate (length rs) r
+  pub zeros : shelf_given (tells_shelf r) ≡ zero_shelf
+  pub stays : after ≡ before
 
 -- once a call gives no event, no later call gives anything else or moves the reader
 abbrev pub StaysPut : Type 0
@@ -217,12 +217,12 @@ StaysPut =
     → ((e : ShelfEvent) (next : ℕ) → tells_shelf r ≡ shelf_event e next → ⊥) → Stopped before r rs after
 
 -- k results are the first k events of a list that stands at a place, and the others stand from the reader's place on
-pub record FirstGiven (s : List ℕ) (place : ℕ) (es : List ShelfEvent) (last : ℕ) (rs : List (ReadOf ShelfEvent))
-    (after : Reader) : Type 0
-  where
-    pub events : map (λ r. shelf_given (tells_shelf r)) rs ≡ take (length rs) es
-    pub passed : ShelfPasses s place (take (length rs) es) after.place
-    pub others : ShelfPasses s after.place (drop (length rs) es) last
+pub record FirstGiven
+    (s : List ℕ) (place : ℕ) (es : List ShelfEvent) (last : ℕ) (rs : List (ReadOf ShelfEvent)) (after : Reader)
+    : Type 0 where
+  pub events : map (λ r. shelf_given (tells_shelf r)) rs ≡ take (length rs) es
+  pub passed : ShelfPasses s place (take (length rs) es) after.place
+  pub others : ShelfPasses s after.place (drop (length rs) es) last
 
 -- k calls of a new reader give the first k events of the trace, whatever stands behind these
 abbrev pub FirstEvents : Type 0

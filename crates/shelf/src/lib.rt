@@ -39,7 +39,8 @@ pub fn event_at(trace: &[u8], place: usize) -> Result<Option<Found<ShelfEvent>>,
     Err(Fault { refusal, place })
 }
 
-// What stands at the place of a reader of a shelf trace; after an event the reader stands behind it.
+// What stands at the place of a reader of a shelf trace; after an event the reader stands behind it. It is like
+// `Reader::next`: one function for both would take `event_at` as a closure, and so ask something of its caller.
 pub fn next<'a>(reader: &mut Reader<'a>) -> Result<Option<Found<ShelfEvent>>, Fault>
     ensures { TakesShelf reader.old result reader.new }
 {

@@ -8,6 +8,7 @@ ghost use Rattle.shelf_run.specs.Promises.{TakesEvents, GoesOver};
 
 use crate::{Gone, Ran, Table};
 use bay::Bay;
+use number::Found;
 use port::{MOST_PHYS, Scan, Standing};
 use replies::StopReply;
 use run::Stop;
@@ -85,8 +86,7 @@ fn take_events(
     let mut place = 0;
     for count in 0..budget {
         match shelf::event_at(trace, place) {
-            Ok(Some(found)) => {
-                let event = found.value;
+            Ok(Some(Found { value: event, next })) => {
                 let at = port::concerned(stands.free, event.number);
                 let held = ((at as u64) < stands.count) & (at < MOST_PHYS);
                 let own = if held { table.bays[at] } else { bay::fresh() };
@@ -98,7 +98,7 @@ fn take_events(
                     table.bays[at] = bay;
                 }
                 stands = taken.standing;
-                place = found.next;
+                place = next;
             }
             Ok(None) => return stopped(table, count, Stop::End),
             Err(fault) => return stopped(table, count, Stop::Fault(fault)),

@@ -40,8 +40,8 @@ pub refusal_of : ℕ → Refusal
 refusal_of n =
     rows n
     (
-      (1 ⇒ BadState) ∷ (2 ⇒ BadEvent) ∷ (3 ⇒ Busy) ∷ (4 ⇒ NothingPending) ∷ (5 ⇒ NotConnected) ∷ (6 ⇒ WrongProtocol)
-      ∷ (7 ⇒ Cut) ∷ (8 ⇒ Overlong) ∷ (9 ⇒ TooLarge) ∷ (10 ⇒ NoRoom) ∷ (11 ⇒ QueueFull) ∷ []
+    (1 ⇒ BadState) ∷ (2 ⇒ BadEvent) ∷ (3 ⇒ Busy) ∷ (4 ⇒ NothingPending) ∷ (5 ⇒ NotConnected) ∷ (6 ⇒ WrongProtocol)
+    ∷ (7 ⇒ Cut) ∷ (8 ⇒ Overlong) ∷ (9 ⇒ TooLarge) ∷ (10 ⇒ NoRoom) ∷ (11 ⇒ QueueFull) ∷ []
     )
     NoSuchPhy
 

@@ -297,11 +297,11 @@ pub data GivesEvents (s : List ℕ) : ℕ → List (ReadOf Event) → List Event
       → GivesEvents s place (Ok (Some (record { value = e; next = next })) ∷ rs) (e ∷ es) last
 
 -- k results are the first k events of a list, and the others stand from the reader's place on
-pub record FirstGiven (s : List ℕ) (es : List Event) (last : ℕ) (rs : List (ReadOf Event)) (after : Reader) : Type 0
-  where
-    pub answers : GivesEvents s 0 rs (take (length rs) es) after.place
-    pub events : map (λ r. event_given (tells r)) rs ≡ take (length rs) es
-    pub others : Passes s after.place (drop (length rs) es) last
+pub record FirstGiven
+    (s : List ℕ) (es : List Event) (last : ℕ) (rs : List (ReadOf Event)) (after : Reader) : Type 0 where
+  pub answers : GivesEvents s 0 rs (take (length rs) es) after.place
+  pub events : map (λ r. event_given (tells r)) rs ≡ take (length rs) es
+  pub others : Passes s after.place (drop (length rs) es) last
 
 -- k calls of a new reader give the first k events of the trace, whatever stands behind these
 abbrev pub FirstEvents : Type 0

@@ -7,8 +7,8 @@ use Rattle.table.specs.declared.Refusal.{Refusal}
 use Rattle.number.specs.declared.Found.{Found}
 use Rattle.event.specs.Table.{known_in_trace}
 use Rattle.event.specs.declared.Event.{Event}
-use Rattle.trace.specs.Reading.{ReadOf, Told, after_code, read_numbers, read_event, place_reached, tells, tells_numbers}
-use Rattle.trace.specs.Reading.{reached}
+use Rattle.trace.specs.Reading.{ReadOf, Told, after_code, read_numbers, read_event, place_reached, tells}
+use Rattle.trace.specs.Reading.{tells_numbers, reached}
 use Rattle.trace.specs.Writing.{event_bytes, write_event, buffer_after, tells_written}
 use Rattle.trace.specs.declared.Reader.{Reader}
 
