@@ -1,18 +1,18 @@
 -- The invariant of taking many numbers: those stored and those still to be taken from here are all of them.
-use Prim.Native.Nat.{ℕ, suc, ◌+◌, ◌-◌, ◌≤◌, ◌<◌, max}
+use Prim.Native.Nat.{ℕ, zero, suc, ◌+◌, ◌-◌, ◌≤◌, ◌<◌, max}
 use mathlib.Core.List.{List, ◌++◌, append-nil}
 use mathlib.Core.Path.{◌≡◌, refl, sym, ap, subst, ◌∙◌}
 use native.Mathlib.Numerals.{add-one}
 use native.Mathlib.Omega.{arith}
 use lib.ListN.{length, take, set, length-set}
 use lib.Seq.{take_all, take-suc-set, append_snoc}
-use Rattle.number.specs.Reading.{tells, read_number}
+use Rattle.number.specs.Reading.{Told, value, refused, tells, read_number}
 use Rattle.std.specs.Prelude.{Result, Ok, Err}
 use Rattle.std.specs.Result.{result_unwrap_or}
 use Rattle.table.specs.declared.Refusal.{Refusal}
 use Rattle.number.proofs.Refusals.{read_moves_on}
 use Rattle.casefile.specs.Reading.{taken_of, taken, numbers_at, place_after}
-use Rattle.casefile.specs.Promises.{Reads, TakesNumber, TakesNumbers}
+use Rattle.casefile.specs.Promises.{Reads, TakesNumber, TakesNumbers, TakesArray}
 use Rattle.casefile.specs.declared.input.Input.{Input}
 use Rattle.number.specs.declared.Found.{Found}
 use Rattle.std.proofs.Common.{Bor}
@@ -23,6 +23,28 @@ pub takes : (s : List ℕ) (place : ℕ) (r : Result (Found ℕ) Refusal) → te
 unfolding taken
 takes s place (Ok found) e = record { says = ap (taken_of (length s)) e; within = (read_moves_on s place found.value found.next (sym e)).within }
 takes s place (Err refusal) e = record { says = ap (taken_of (length s)) e; within = omega arith }
+
+-- a number ends in the file, and so do numbers
+pub number_within : (s : List ℕ) (place : ℕ) (told : Told) → told ≡ read_number s place → (taken_of (length s) told).next ≤ length s
+number_within s place (value v next) e = (read_moves_on s place v next (sym e)).within
+number_within s place (refused n) e = omega arith
+
+pub numbers_within : (s : List ℕ) (count place : ℕ) → 0 < count → place_after count s place ≤ length s
+unfolding place_after taken
+numbers_within s zero place h = omega (arith, h)
+numbers_within s (suc zero) place h = number_within s place (read_number s place) refl
+numbers_within s (suc (suc count)) place h = numbers_within s (suc count) (taken s place).next (omega arith)
+
+-- what is taken for each place of an array that has so many
+pub array_of :
+    {before s numbers : List ℕ} {place next : ℕ} (count : ℕ) → length before ≡ count → TakesNumbers before s place (record { value = numbers; next = next })
+    → TakesArray count s place (record { value = numbers; next = next })
+array_of {s = s} {place = place} count e n =
+    record {
+      there = rw e at n.there;
+      numbers = rw e at n.numbers;
+      within = λ h. rw (n.there, e) (numbers_within s count place h);
+    }
 
 -- what is read of an input whose file is another's
 pub reads_at : {T : Type 0} {Contract : List ℕ → ℕ → Found T → Type 0} {old new : Input} {r : T} {file : Bor (List ℕ)} → old.s ≡ file → Reads Contract old new r

@@ -6,7 +6,7 @@ use Rattle.output.specs.Laws.{SameUnlessLost, DeterminesUnlessLost}
 use Rattle.casefile.specs.Records.{phy_numbers, phy_of}
 use Rattle.casefile.specs.Window.{Place, none_ahead, enough_ahead, ahead_after}
 use Rattle.casefile.specs.Promises.{TakesNumber, TakesBytes, TakesNumbers, MakesPhy, GivesNumbers, MakesEvent}
-use Rattle.casefile.specs.Promises.{PutsPiece, PutsPieces, PutsRepeats, Slides, GoesOn}
+use Rattle.casefile.specs.Promises.{TakesArray, PutsPiece, PutsPieces, PutsRepeats, Slides, GoesOn}
 use Rattle.casefile.specs.Promises.{EndsWithin, TakesPieces, TakesAll}
 use Rattle.casefile.specs.declared.input.Input.{Input}
 use Rattle.casefile.specs.declared.Ahead.{Ahead}
@@ -21,6 +21,7 @@ pub record Determined : Type 0 where
   pub take : (s : List ℕ) (place : ℕ) → Determines (TakesNumber s place)
   pub take_bytes : (s : List ℕ) (place : ℕ) → Determines (TakesBytes s place)
   pub take_many : (before s : List ℕ) (place : ℕ) → Determines (TakesNumbers before s place)
+  pub take_array : (count : ℕ) (s : List ℕ) (place : ℕ) → Determines (TakesArray count s place)
   pub phy_of : (f : List ℕ) → Determines (MakesPhy f)
   pub phy_numbers : (p : Phy) → Determines (GivesNumbers p)
   pub event_of : (f : List ℕ) → Determines (MakesEvent f)

@@ -1,5 +1,5 @@
 -- What each function promises, cited by its `ensures` and, of the public ones, by `Determined` in Laws.
-use Rattle.std.specs.Prelude.{ℕ, ◌-◌, ◌≤◌, max, Bool, List, ◌⊎◌, ◌≡◌, eqb, leb, length, take}
+use Rattle.std.specs.Prelude.{ℕ, ◌-◌, ◌≤◌, ◌<◌, max, Bool, List, ◌⊎◌, ◌≡◌, eqb, leb, length, take}
 use Rattle.std.proofs.Math.Seq.{slice}
 use Rattle.table.specs.Choice.{pick}
 use Rattle.table.specs.Results.{Leaves}
@@ -39,6 +39,12 @@ pub record TakesNumbers (before : List ℕ) (s : List ℕ) (place : ℕ) (r : Fo
   pub there : r.next ≡ place_after (length before) s place
   pub numbers : r.value ≡ numbers_at (length before) s place
   pub within : r.next ≤ max place (length s)
+
+-- `take_array` of so many numbers; callers need that it ends in the file, where it takes any
+pub record TakesArray (count : ℕ) (s : List ℕ) (place : ℕ) (r : Found (List ℕ)) : Type 0 where
+  pub there : r.next ≡ place_after count s place
+  pub numbers : r.value ≡ numbers_at count s place
+  pub within : 0 < count → r.next ≤ length s
 
 -- `phy_of`, `phy_numbers` and `event_of`
 abbrev pub MakesPhy : List ℕ → Phy → Type 0

@@ -1,5 +1,5 @@
 // Numbers and byte strings of the case file.
-ghost use Rattle.casefile.specs.Promises.{Reads, TakesNumber, TakesBytes, TakesNumbers};
+ghost use Rattle.casefile.specs.Promises.{Reads, TakesNumber, TakesBytes, TakesNumbers, TakesArray};
 
 use number::{Found, read_number};
 
@@ -43,5 +43,14 @@ impl<'a> Input<'a> {
         for number in numbers {
             *number = self.take();
         }
+    }
+
+    // A number for each place of a new array.
+    pub fn take_array<const N: usize>(&mut self) -> [u64; N]
+        ensures { Reads (TakesArray N) self.old self.new result }
+    {
+        let mut numbers = [0u64; N];
+        self.take_many(&mut numbers);
+        numbers
     }
 }

@@ -3,7 +3,7 @@
 // output is made by the reference alone.
 #![tactic(auto)]
 
-ghost use Rattle.casefile.specs.Promises.{EndsWithin};
+ghost use Rattle.cases.specs.Kinds.{NamesKind};
 
 mod bays;
 mod idents;
@@ -12,49 +12,69 @@ mod phys;
 mod syncs;
 mod walks;
 
-use casefile::{BUFFER, Place, START, next_case, take};
-use output::write_out;
+use bay::Bay;
+use casefile::{BUFFER, Cases, Input, take_all};
+use identify::Identification;
+use output::Text;
+use phy::Phy;
+use syncs::Sync;
+use walks::walk_case;
 
-const READ_NUMBER: u64 = 1;
+// What a case is of.
+#[derive(Clone, Copy)]
+enum Kind {
+    ReadNumber,
+    WriteNumber,
+    DwsWalk,
+    IdentifyWalk,
+    PhyWalk,
+    BayWalk,
+}
 
-const WRITE_NUMBER: u64 = 2;
+// No case of this program has this number.
+#[derive(Clone, Copy)]
+struct UnknownKind;
 
-const DWS_WALK: u64 = 3;
+impl TryFrom<u64> for Kind {
+    type Error = UnknownKind;
 
-const IDENTIFY_WALK: u64 = 4;
+    ghost try_from_gives = { NamesKind };
 
-const PHY_WALK: u64 = 5;
-
-const BAY_WALK: u64 = 11;
-
-// The case at a place. An unknown kind ends the run: nothing after it could be told apart.
-fn one_case(rt: &(impl Print + Eprint), s: &[u8], place: usize, out: &mut [u8], n: usize) -> Place
-    ensures { EndsWithin s.now result }
-{
-    let kind = take(s, place);
-    let next = kind.next;
-    let code = kind.value;
-    match code {
-        READ_NUMBER => numbers::read_case(rt, s, code, next, out, n),
-        WRITE_NUMBER => numbers::write_case(rt, s, code, next, out, n),
-        DWS_WALK => walks::walk_case(rt, s, code, next, out, n),
-        IDENTIFY_WALK => walks::walk_case(rt, s, code, next, out, n),
-        PHY_WALK => walks::walk_case(rt, s, code, next, out, n),
-        BAY_WALK => walks::walk_case(rt, s, code, next, out, n),
-        _ => Place { next: s.len(), n },
+    fn try_from(number: u64) -> Result<Kind, UnknownKind> {
+        match number {
+            1 => Ok(Kind::ReadNumber),
+            2 => Ok(Kind::WriteNumber),
+            3 => Ok(Kind::DwsWalk),
+            4 => Ok(Kind::IdentifyWalk),
+            5 => Ok(Kind::PhyWalk),
+            11 => Ok(Kind::BayWalk),
+            _ => Err(UnknownKind),
+        }
     }
 }
 
-// In the first turn nothing is ahead yet: no case is there to take.
-fn main(rt: HostRuntime) {
-    let mut input = rt.stdin();
-    let mut window = [0u8; BUFFER];
-    let mut out = [0u8; BUFFER];
-    let mut turn = START;
-    while 0 < turn.left {
-        let to = turn.to;
-        let at = one_case(&rt, &window[0..to], turn.from, &mut out, turn.n);
-        turn = next_case(&mut input, &mut window, turn, at);
+// The cases of this program.
+struct MachineCases;
+
+impl Cases for MachineCases {
+    fn take_case(rt: &(impl Print + Eprint), kind: u64, input: &mut Input, text: &mut Text) {
+        let Ok(known) = Kind::try_from(kind) else {
+            input.place = input.s.len();
+            return;
+        };
+        match known {
+            Kind::ReadNumber => numbers::read_case(rt, kind, input, text),
+            Kind::WriteNumber => numbers::write_case(rt, kind, input, text),
+            Kind::DwsWalk => walk_case::<Sync>(rt, kind, input, text),
+            Kind::IdentifyWalk => walk_case::<Identification>(rt, kind, input, text),
+            Kind::PhyWalk => walk_case::<Phy>(rt, kind, input, text),
+            Kind::BayWalk => walk_case::<Bay>(rt, kind, input, text),
+        }
     }
-    write_out(&rt, &out, turn.n, 0);
+}
+
+fn main(rt: HostRuntime) {
+    let mut out = [0u8; BUFFER];
+    let mut text = Text::new(&mut out);
+    take_all::<MachineCases>(&rt, &mut rt.stdin(), &mut text);
 }

@@ -1,26 +1,27 @@
 // Steps of the crate `dws`.
-ghost use Rattle.std.specs.Prelude.{◌≤◌, length};
+use crate::walks::Machine;
+use casefile::Input;
+use output::Text;
 
-use crate::walks::Walk;
-use casefile::take;
-use output::put_line;
+// A state of the crate `dws`, which is a number there.
+#[derive(Clone, Copy)]
+pub(crate) struct Sync(u64);
 
-// event: the refusal, the state and the report
-pub(crate) fn one_step(
-    rt: &(impl Print + Eprint),
-    s: &[u8],
-    kind: u64,
-    walk: Walk,
-    out: &mut [u8],
-) -> Walk
-    ensures { result.next ≤ length s.now }
-{
-    let event = take(s, walk.next);
-    let r = dws::step(walk.sync, event.value);
-    let said = [r.refusal, r.state, r.report];
-    let mut after = walk;
-    after.sync = r.state;
-    after.next = event.next;
-    after.n = put_line(rt, out, walk.n, kind, &said);
-    after
+impl Machine for Sync {
+    fn take_state(input: &mut Input) -> Sync {
+        Sync(input.take())
+    }
+
+    // event: the refusal, the state and the report
+    fn take_item(
+        self,
+        rt: &(impl Print + Eprint),
+        kind: u64,
+        input: &mut Input,
+        text: &mut Text,
+    ) -> Sync {
+        let r = dws::step(self.0, input.take());
+        text.put_line(rt, kind, &[r.refusal, r.state, r.report]);
+        Sync(r.state)
+    }
 }

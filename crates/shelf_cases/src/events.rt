@@ -2,7 +2,7 @@
 // those of `trace_cases`, which take and print no number of a phy; what both do alike is in `casefile` and `replies`.
 ghost use Rattle.casefile.specs.Promises.{EndsWithin};
 
-use casefile::{EVENT_NUMBERS, Input, event_of};
+use casefile::{Input, event_of};
 use event::{NO_EVENT, ShelfEvent};
 use output::Text;
 use replies::WriteReply;
@@ -63,11 +63,9 @@ pub(crate) fn take_event(input: &mut Input) -> ShelfEvent
     ensures { EndsWithin input.old input.new }
 {
     let number = input.take();
-    let mut numbers = [0u64; EVENT_NUMBERS];
-    input.take_many(&mut numbers);
     ShelfEvent {
         number,
-        event: event_of(numbers),
+        event: event_of(input.take_array()),
     }
 }
 

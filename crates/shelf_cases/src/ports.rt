@@ -6,7 +6,7 @@ ghost use Rattle.held.specs.Promises.{StepsRow};
 ghost use Rattle.shelf_run.specs.Promises.{Runs};
 
 use bay::Bay;
-use casefile::{Input, PHY_NUMBERS, phy_numbers, phy_of};
+use casefile::{Input, phy_numbers, phy_of};
 use event::ShelfEvent;
 use held::{MOST_HELD, Row};
 use output::Text;
@@ -30,10 +30,8 @@ pub(crate) struct Port<'a> {
 fn take_bay(input: &mut Input) -> Bay
     ensures { EndsWithin input.old input.new }
 {
-    let mut fields = [0u64; PHY_NUMBERS];
-    input.take_many(&mut fields);
     Bay {
-        phy: phy_of(fields),
+        phy: phy_of(input.take_array()),
         base: input.take(),
         baseSet: input.take(),
     }

@@ -1,30 +1,21 @@
 // Cases of single events: reading at a place of a byte string, writing into a buffer.
-ghost use Rattle.output.specs.Promises.{PutsNumbersLine};
+ghost use Rattle.output.specs.Promises.{Extends, PutsNumbersLine};
 ghost use Rattle.casefile.specs.Promises.{EndsWithin};
 ghost use Rattle.trace_cases.specs.Lines.{reply_numbers};
 
-use casefile::{EVENT_NUMBERS, Place, event_of, take, take_bytes, take_many};
-use event::Event;
-use output::{end_line, put_all, put_bytes, put_line, put_numbers};
+use casefile::{Input, event_of};
+use output::Text;
 use replies::EventReply;
 
 // The buffers of the cases are no longer than this.
 const MOST_BUFFER: usize = 96;
 
-const LINE: usize = 10;
-
 // how, refusal, place reached, code, arguments
-pub(crate) fn put_said(
-    rt: &(impl Print + Eprint),
-    out: &mut [u8],
-    n: usize,
-    kind: u64,
-    said: EventReply,
-) -> usize
-    ensures { PutsNumbersLine kind (reply_numbers said) out.old n result out.new }
+pub(crate) fn put_said(rt: &(impl Print + Eprint), kind: u64, said: EventReply, text: &mut Text)
+    ensures { Extends (PutsNumbersLine kind (reply_numbers said)) text.old text.new }
 {
     let e = said.event;
-    let line: [u64; LINE] = [
+    let line = [
         said.how,
         said.refusal,
         said.next as u64,
@@ -36,74 +27,31 @@ pub(crate) fn put_said(
         e.fifth,
         e.sixth,
     ];
-    put_line(rt, out, n, kind, &line)
+    text.put_line(rt, kind, &line);
 }
 
 // place, bytes: what was read there
-pub(crate) fn read_case(
-    rt: &(impl Print + Eprint),
-    s: &[u8],
-    kind: u64,
-    place: usize,
-    out: &mut [u8],
-    n: usize,
-) -> Place
-    ensures { EndsWithin s.now result }
+pub(crate) fn read_case(rt: &(impl Print + Eprint), kind: u64, input: &mut Input, text: &mut Text)
+    ensures { EndsWithin input.old input.new }
 {
-    let at = take(s, place);
-    let part = take_bytes(s, at.next);
-    let from = part.from;
-    let to = part.to;
-    let said = replies::read_event(&s[from..to], at.value as usize);
-    Place {
-        next: to,
-        n: put_said(rt, out, n, kind, said),
-    }
-}
-
-fn write_line(
-    rt: &(impl Print + Eprint),
-    buffer: &mut [u8],
-    event: Event,
-    place: usize,
-    kind: u64,
-    out: &mut [u8],
-    n: usize,
-) -> usize {
-    let r = replies::write_event(event, buffer, place);
-    let said = [r.refusal, r.length as u64];
-    let head = put_numbers(out, n, kind, &said);
-    let end = put_bytes(out, head, buffer);
-    end_line(rt, out, end)
+    let place = input.take() as usize;
+    let said = replies::read_event(input.take_bytes(), place);
+    put_said(rt, kind, said, text);
 }
 
 // place, event, buffer before: refusal, length, buffer after
-pub(crate) fn write_case(
-    rt: &(impl Print + Eprint),
-    s: &[u8],
-    kind: u64,
-    place: usize,
-    out: &mut [u8],
-    n: usize,
-) -> Place
-    ensures { EndsWithin s.now result }
+pub(crate) fn write_case(rt: &(impl Print + Eprint), kind: u64, input: &mut Input, text: &mut Text)
+    ensures { EndsWithin input.old input.new }
 {
-    let at = take(s, place);
-    let mut numbers = [0u64; EVENT_NUMBERS];
-    let after = take_many(s, at.next, &mut numbers);
-    let part = take_bytes(s, after);
-    let from = part.from;
-    let to = part.to;
+    let place = input.take() as usize;
+    let event = event_of(input.take_array());
+    let before = input.take_bytes();
+    let length = before.len().min(MOST_BUFFER);
     let mut room = [0u8; MOST_BUFFER];
-    let count = put_all(&mut room, 0, &s[from..to]);
-    let end = write_line(
-        rt,
-        &mut room[0..count],
-        event_of(numbers),
-        at.value as usize,
-        kind,
-        out,
-        n,
-    );
-    Place { next: to, n: end }
+    let buffer = &mut room[..length];
+    buffer.copy_from_slice(&before[..length]);
+    let r = replies::write_event(event, buffer, place);
+    text.put_numbers(kind, &[r.refusal, r.length as u64]);
+    text.put_more(buffer);
+    text.end_line(rt);
 }

@@ -3,53 +3,68 @@
 // by the reference alone.
 #![tactic(auto)]
 
-ghost use Rattle.casefile.specs.Promises.{EndsWithin};
+ghost use Rattle.trace_cases.specs.Kinds.{NamesKind};
 
 mod events;
-mod listings;
 mod runs;
 mod traces;
 
-use casefile::{BUFFER, Place, START, next_case, take};
-use output::write_out;
+use casefile::{BUFFER, Cases, Input, list_case, take_all};
+use listing::OfPhy;
+use output::Text;
 
-const READ_EVENT: u64 = 6;
+// What a case is of.
+#[derive(Clone, Copy)]
+enum Kind {
+    ReadEvent,
+    WriteEvent,
+    WholeTrace,
+    Runs,
+    Listing,
+}
 
-const WRITE_EVENT: u64 = 7;
+// No case of this program has this number.
+#[derive(Clone, Copy)]
+struct UnknownKind;
 
-const WHOLE_TRACE: u64 = 8;
+impl TryFrom<u64> for Kind {
+    type Error = UnknownKind;
 
-const RUNS: u64 = 9;
+    ghost try_from_gives = { NamesKind };
 
-const LISTING: u64 = 10;
-
-// The case at a place. An unknown kind ends the run: nothing after it could be told apart.
-fn one_case(rt: &(impl Print + Eprint), s: &[u8], place: usize, out: &mut [u8], n: usize) -> Place
-    ensures { EndsWithin s.now result }
-{
-    let kind = take(s, place);
-    let next = kind.next;
-    let code = kind.value;
-    match code {
-        READ_EVENT => events::read_case(rt, s, code, next, out, n),
-        WRITE_EVENT => events::write_case(rt, s, code, next, out, n),
-        WHOLE_TRACE => traces::trace_case(rt, s, code, next, out, n),
-        RUNS => runs::run_case(rt, s, code, next, out, n),
-        LISTING => listings::list_case(rt, s, next, out, n),
-        _ => Place { next: s.len(), n },
+    fn try_from(number: u64) -> Result<Kind, UnknownKind> {
+        match number {
+            6 => Ok(Kind::ReadEvent),
+            7 => Ok(Kind::WriteEvent),
+            8 => Ok(Kind::WholeTrace),
+            9 => Ok(Kind::Runs),
+            10 => Ok(Kind::Listing),
+            _ => Err(UnknownKind),
+        }
     }
 }
 
-// In the first turn nothing is ahead yet: no case is there to take.
-fn main(rt: HostRuntime) {
-    let mut input = rt.stdin();
-    let mut window = [0u8; BUFFER];
-    let mut out = [0u8; BUFFER];
-    let mut turn = START;
-    while 0 < turn.left {
-        let to = turn.to;
-        let at = one_case(&rt, &window[0..to], turn.from, &mut out, turn.n);
-        turn = next_case(&mut input, &mut window, turn, at);
+// The cases of this program.
+struct TraceCases;
+
+impl Cases for TraceCases {
+    fn take_case(rt: &(impl Print + Eprint), kind: u64, input: &mut Input, text: &mut Text) {
+        let Ok(known) = Kind::try_from(kind) else {
+            input.place = input.s.len();
+            return;
+        };
+        match known {
+            Kind::ReadEvent => events::read_case(rt, kind, input, text),
+            Kind::WriteEvent => events::write_case(rt, kind, input, text),
+            Kind::WholeTrace => traces::trace_case(rt, kind, input, text),
+            Kind::Runs => runs::run_case(rt, kind, input, text),
+            Kind::Listing => list_case::<OfPhy>(rt, bay::fresh(), input, text),
+        }
     }
-    write_out(&rt, &out, turn.n, 0);
+}
+
+fn main(rt: HostRuntime) {
+    let mut out = [0u8; BUFFER];
+    let mut text = Text::new(&mut out);
+    take_all::<TraceCases>(&rt, &mut rt.stdin(), &mut text);
 }
