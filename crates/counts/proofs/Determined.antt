@@ -1,45 +1,36 @@
 -- Each contract gives what its result tells, and what it leaves, as one value of a definition, and a result is known by what it tells.
 use Prim.Native.Nat.{ℕ}
-use mathlib.Core.List.{[], ◌∷◌}
-use mathlib.Core.Path.{◌≡◌, refl}
+use mathlib.Core.Path.{◌≡◌, refl, ap}
 use lib.Dec.{eqb}
 use Rattle.std.specs.Prelude.{Result, Ok, Err}
-use Rattle.table.specs.Choice.{pick, ◌⇒◌, rows}
-use Rattle.table.specs.Refusals.{bad_state, bad_event, busy, nothing_pending, not_connected, wrong_protocol, cut, overlong, too_large, no_room, queue_full, number_of}
+use Rattle.table.specs.Choice.{pick}
+use Rattle.table.specs.Refusals.{number_of}
 use Rattle.table.specs.Results.{TellsOnce}
 use Rattle.table.specs.declared.Refusal.{Refusal}
 use Rattle.table.specs.declared.Refusal.TheVariants.{BadState, BadEvent, Busy, NothingPending, NotConnected, WrongProtocol, Cut, Overlong, TooLarge, NoRoom, QueueFull, NoSuchPhy}
-use Rattle.table.proofs.Results.{leads_back, by_telling, by_equation, with_lent}
+use Rattle.table.proofs.Results.{leads_back, refusal_of, refusal_back, by_telling, by_equation, with_lent}
 use Rattle.counts.specs.Counters.{Count, refusal_told, tells}
 use Rattle.counts.specs.Laws.{Determined}
 
--- the refusal of a number
-refusal_at : ℕ → Refusal
-refusal_at n =
-    rows n
-    ((bad_state ⇒ BadState) ∷ (bad_event ⇒ BadEvent) ∷ (busy ⇒ Busy) ∷ (nothing_pending ⇒ NothingPending)
-    ∷ (not_connected ⇒ NotConnected) ∷ (wrong_protocol ⇒ WrongProtocol) ∷ (cut ⇒ Cut) ∷ (overlong ⇒ Overlong)
-    ∷ (too_large ⇒ TooLarge) ∷ (no_room ⇒ NoRoom) ∷ (queue_full ⇒ QueueFull) ∷ []) NoSuchPhy
-
 -- the result with a value or with the refusal of a number, where 0 is none
 back : {A : Type 0} → A → ℕ → Result A Refusal
-back a n = pick (eqb n 0) (Ok a) (Err (refusal_at n))
+back a n = pick (eqb n 0) (Ok a) (Err (refusal_of n))
 
 -- a refusal's number leads back to it
 refused_back : {A : Type 0} (a : A) (refusal : Refusal) → back a (number_of refusal) ≡ Err refusal
-unfolding back refusal_at
-refused_back a BadState = refl
-refused_back a BadEvent = refl
-refused_back a Busy = refl
-refused_back a NothingPending = refl
-refused_back a NotConnected = refl
-refused_back a WrongProtocol = refl
-refused_back a Cut = refl
-refused_back a Overlong = refl
-refused_back a TooLarge = refl
-refused_back a NoRoom = refl
-refused_back a QueueFull = refl
-refused_back a NoSuchPhy = refl
+unfolding back
+refused_back a BadState = ap Err (refusal_back BadState)
+refused_back a BadEvent = ap Err (refusal_back BadEvent)
+refused_back a Busy = ap Err (refusal_back Busy)
+refused_back a NothingPending = ap Err (refusal_back NothingPending)
+refused_back a NotConnected = ap Err (refusal_back NotConnected)
+refused_back a WrongProtocol = ap Err (refusal_back WrongProtocol)
+refused_back a Cut = ap Err (refusal_back Cut)
+refused_back a Overlong = ap Err (refusal_back Overlong)
+refused_back a TooLarge = ap Err (refusal_back TooLarge)
+refused_back a NoRoom = ap Err (refusal_back NoRoom)
+refused_back a QueueFull = ap Err (refusal_back QueueFull)
+refused_back a NoSuchPhy = ap Err (refusal_back NoSuchPhy)
 
 told_back : (r : Result (Unit {0}) Refusal) → back tt (refusal_told r) ≡ r
 unfolding back

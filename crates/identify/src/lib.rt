@@ -15,8 +15,8 @@ ghost use Rattle.identify.specs.Step.{code_of, argument_of, ReadsEvent, move_of}
 use table::Refusal;
 
 // The receiver's states; a record holds the number, as C hands it in.
-#[derive(Clone, Copy)]
-enum Receiver {
+#[derive(Clone, Copy, Debug, PartialEq, Eq)]
+pub enum Receiver {
     Idle = 0,
     Receiving = 1,
     Spoiled = 2,
@@ -24,25 +24,25 @@ enum Receiver {
 }
 
 // The events' codes, as C hands them in.
-const SOAF: u64 = 0;
+pub const SOAF: u64 = 0;
 
-const DATA_DWORD: u64 = 1;
+pub const DATA_DWORD: u64 = 1;
 
-const EOAF: u64 = 2;
+pub const EOAF: u64 = 2;
 
-const HARD_RESET: u64 = 3;
+pub const HARD_RESET: u64 = 3;
 
-const OTHER_PRIMITIVE: u64 = 4;
+pub const OTHER_PRIMITIVE: u64 = 4;
 
-const OWN_FRAME_SENT: u64 = 5;
+pub const OWN_FRAME_SENT: u64 = 5;
 
-const TICK: u64 = 6;
+pub const TICK: u64 = 6;
 
-const ENABLE: u64 = 7;
+pub const ENABLE: u64 = 7;
 
 // The reports; from Complete on they are outcomes too, and a record holds the number.
-#[derive(Clone, Copy)]
-enum Report {
+#[derive(Clone, Copy, Debug, PartialEq, Eq)]
+pub enum Report {
     None = 0,
     Failed = 1,
     Complete = 2,

@@ -39,6 +39,7 @@ determined =
       put_all = λ bytes before n. by_result_lent (λ r q e. e) (λ r after a. record { says = a.puts.there; leaves = a.puts.stored });
       put_more = λ value numbers. puts (more_of value numbers);
       put_numbers = λ first others. puts (numbers_text first others);
+      write_gathered = out;
       write_out = out;
       is_lost = λ n. by_equation _;
       end_line = ends_line (newline ∷ []);

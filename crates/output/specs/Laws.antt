@@ -31,6 +31,7 @@ pub record Determined : Type 1 where
       {T : Type 0} (value : T → ℕ) (numbers : List T) (before : List ℕ) (n : ℕ)
       → DeterminesLent (PutsMore value numbers before n)
   pub put_numbers : (first : ℕ) (others before : List ℕ) (n : ℕ) → DeterminesLent (PutsNumbers first others before n)
+  pub write_gathered : (n least r q : ℕ) → WritesOut n least r → WritesOut n least q → SameUnlessLost r q
   pub write_out : (n least r q : ℕ) → WritesOut n least r → WritesOut n least q → SameUnlessLost r q
   pub is_lost : (n : ℕ) → Determines (TellsLost n)
   pub end_line : (before : List ℕ) (n : ℕ) → DeterminesUnlessLost (EndsLine before n)

@@ -1,11 +1,11 @@
 // Lines of text, gathered in a buffer: decimal numbers, one blank between two. What has no room is left out.
 #![tactic(auto)]
 
-ghost use Rattle.std.specs.Prelude.{ℕ, [], ◌⊎◌, ◌∷◌, ◌≡◌};
+ghost use Rattle.std.specs.Prelude.{ℕ, [], ◌∷◌};
 ghost use Rattle.output.specs.Decimal.{decimal};
-ghost use Rattle.output.specs.Writing.{further, lost};
+ghost use Rattle.output.specs.Writing.{further};
 ghost use Rattle.output.specs.Promises.{Extends, StartsText, TellsValue, ShowsBytes, Puts, PutsAll, PutsMore, PutsNumbers};
-ghost use Rattle.output.specs.Promises.{GoesOut, TellsLost, EndsLine, PutsNumbersLine};
+ghost use Rattle.output.specs.Promises.{WritesOut, GoesOut, TellsLost, EndsLine, PutsNumbersLine};
 
 mod system;
 
@@ -18,7 +18,7 @@ pub const GATHERED: usize = 32768;
 
 // The place after a write that failed. No buffer has it, so nothing that comes later has room. It is a number
 // because `PutsStayLost`, `LinesStayLost` and `OutStaysLost` of specs/Laws speak of that place.
-pub(crate) const LOST: usize = usize::MAX;
+pub const LOST: usize = usize::MAX;
 
 // What a line shows as a number. A bound `Into<u64>` gives a relation, and the contract needs the number itself.
 pub trait Number: Copy {
@@ -123,27 +123,18 @@ impl<'a> Text<'a> {
         self.n == LOST
     }
 
-    // Writes what is gathered and gives the place after that. What is lost is told on standard error; whoever
-    // closed a pipe needs no telling.
-    fn place_written(&self, rt: &(impl Print + Eprint)) -> usize
-        ensures { (result ≡ 0) ⊎ (result ≡ lost) }
+    // The place after writing out: where a text that may change lends its buffer a proof knows nothing of the bytes.
+    fn place_written(&self, rt: &(impl Print + Eprint), least: usize) -> usize
+        ensures { WritesOut self.now.n least result }
     {
-        match rt.write_all(self.bytes()) {
-            Ok(()) => 0,
-            Err(error) if error.kind() == ErrorKind::BrokenPipe => LOST,
-            Err(error) => fail(rt, "not all was written to standard output", &error),
-        }
+        write_gathered(rt, self.out, self.n, least)
     }
 
-    // What is gathered goes out once it is `least` or more. No contract can say what a call writes, so no
-    // branch skips the write.
+    // What is gathered goes out once it is `least` or more.
     pub fn write_out(&mut self, rt: &(impl Print + Eprint), least: usize)
         ensures { Extends (GoesOut least) self.old self.new }
     {
-        if (self.n < least) | self.is_lost() {
-            return;
-        }
-        self.n = self.place_written(rt);
+        self.n = self.place_written(rt, least);
     }
 
     // The end of a line, after which a full buffer is written.
@@ -160,5 +151,21 @@ impl<'a> Text<'a> {
     {
         self.put_numbers(first, others);
         self.end_line(rt);
+    }
+}
+
+// Writes n bytes that are gathered in a buffer, as far as it holds them, once they are `least` or more, and gives how
+// many are gathered then. What is lost is told on standard error; whoever closed a pipe needs no telling. No contract
+// can say what a call writes, so no branch skips the write.
+pub fn write_gathered(rt: &(impl Print + Eprint), out: &[u8], n: usize, least: usize) -> usize
+    ensures { WritesOut n least result }
+{
+    if (n < least) | (n == LOST) {
+        return n;
+    }
+    match rt.write_all(&out[..n.min(out.len())]) {
+        Ok(()) => 0,
+        Err(error) if error.kind() == ErrorKind::BrokenPipe => LOST,
+        Err(error) => fail(rt, "not all was written to standard output", &error),
     }
 }

@@ -1,4 +1,5 @@
-// The paper's numbers of the phy. They are no enums, since the records of the C interface have them.
+// The paper's numbers of the phy. They are no enums: a record of the C interface has them as numbers, a move takes any
+// record, and each choice would first ask whether a number is one, for which a run would pay.
 
 // Link states: Idle, ArbSel, Selected, Connected, DisconnectWait, BreakWait, Break.
 pub const L0: u64 = 0;

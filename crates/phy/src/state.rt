@@ -91,7 +91,7 @@ fn valid_connected(p: Phy) -> bool
     let request = p.request;
     let timer = p.timer;
     let set = valid_settings(p.settings);
-    let unused = (request == NO_OPEN);
+    let unused = request == NO_OPEN;
     let no_part = p.part == 0;
     let no_reason = p.reason == 0;
     let linked = p.connectionProtocol <= STP;

@@ -6,6 +6,7 @@ use Rattle.port.specs.Laws.{Determined}
 pub determined : Determined
 determined =
     record {
+      reports_of = λ r. by_equation _;
       begun = by_equation _;
       survey = λ row from. by_equation _;
       judge = λ scan queue. by_equation _;

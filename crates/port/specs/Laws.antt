@@ -15,15 +15,17 @@ use Rattle.port.specs.State.{Port, valid_of}
 use Rattle.port.specs.Step.{HandOut, PortStepped, refused, bay_at, port_step_of}
 use Rattle.port.specs.Lent.{port_in, lent_step, numbers_after, tells}
 use Rattle.port.specs.Stages.{Course, begun, scanned, standing_of, sound_scan, standing_in, concerned, taken_of}
-use Rattle.port.specs.Promises.{Begins, Surveys, Judges, Concerns, Takes, Steps}
+use Rattle.port.specs.Promises.{MakesReports, Begins, Surveys, Judges, Concerns, Takes, Steps}
 use Rattle.port.specs.declared.Scan.{Scan}
 use Rattle.port.specs.declared.Standing.{Standing}
+use Rattle.bay.specs.declared.Stepped.{Stepped as BayStepped}
 use Rattle.port.specs.declared.Stepped.{Stepped}
 
 -- ---- results are determined (proofs/Determined)
 
 -- two results that a function may give coincide, as do the rows and queues that it leaves
 pub record Determined : Type 0 where
+  pub reports_of : (r : BayStepped) → Determines (MakesReports r)
   pub begun : Determines Begins
   pub survey : (row : List Bay) (from : Scan) → Determines (Surveys row from)
   pub judge : (scan : Scan) (queue : List ℕ) → Determines (Judges scan queue)

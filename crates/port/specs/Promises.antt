@@ -3,13 +3,20 @@ use Rattle.std.specs.Prelude.{ℕ, List, ◌≡◌}
 use Rattle.table.specs.Results.{Leaves}
 use Rattle.event.specs.declared.Event.{Event}
 use Rattle.bay.specs.declared.Bay.{Bay}
+use Rattle.bay.specs.declared.Stepped.{Stepped as BayStepped}
+use Rattle.port.specs.Step.{reports_of}
 use Rattle.port.specs.Lent.{lent_step, numbers_after, tells}
 use Rattle.port.specs.Stages.{begun, scanned, sound_scan, standing_in, concerned, taken_of, planned_of, queue_after}
 use Rattle.port.specs.declared.Judged.{Judged}
+use Rattle.port.specs.declared.Reports.{Reports}
 use Rattle.port.specs.declared.Scan.{Scan}
 use Rattle.port.specs.declared.Standing.{Standing}
 use Rattle.port.specs.declared.Stepped.{Stepped}
 use Rattle.port.specs.declared.Taken.{Taken}
+
+-- `from` of what a bay's step gives: what it reports
+abbrev pub MakesReports : BayStepped → Reports → Type 0
+MakesReports r reports = reports ≡ reports_of r
 
 -- `begun`, before the first record of a row
 abbrev pub Begins : Scan → Type 0

@@ -1,4 +1,4 @@
-// The free phys of a port as a mask: a bit for each, by its number. How many are free, which is the lowest, and
+// The free phys of a port as a mask: a bit for each, by its number. Whether any is free, which is the lowest, and
 // what becomes of the mask.
 ghost use Rattle.std.specs.Prelude.{◌<◌, ◌^◌, true, false, ◌≡◌, MatchOption};
 ghost use Rattle.port.specs.Stages.{some_free, lowest_in, free_after};

@@ -3,10 +3,10 @@ ghost use Rattle.std.specs.Prelude.{◌≡◌};
 ghost use Rattle.table.specs.Results.{Leaves};
 ghost use Rattle.table.specs.Refusals.{number_of};
 ghost use Rattle.port.specs.State.{is_free as state_is_free};
-ghost use Rattle.port.specs.Step.{reports_of, only_refusal};
+ghost use Rattle.port.specs.Step.{only_refusal};
 ghost use Rattle.bay.specs.Step.{move_of};
 ghost use Rattle.port.specs.Stages.{standing as stands, free_after as mask_after, none_handed, keeps, receives, hand_on, on_moved, on_port};
-ghost use Rattle.port.specs.Promises.{Concerns, Takes};
+ghost use Rattle.port.specs.Promises.{MakesReports, Concerns, Takes};
 
 use crate::free::{PhyNumber, free_after, lowest_free, lowest_in, some_free};
 use crate::state::is_free;
@@ -29,7 +29,7 @@ pub fn concerned(free: u64, number: u64) -> usize
 
 // What a bay's step reports.
 impl From<bay::Stepped> for Reports {
-    ghost from_gives = { λ r reports. reports ≡ reports_of r };
+    ghost from_gives = { MakesReports };
 
     fn from(r: bay::Stepped) -> Reports {
         Reports {

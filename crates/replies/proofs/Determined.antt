@@ -9,6 +9,7 @@ determined =
       write_number = λ v before place. by_equation_lent _ _;
       read_event = λ s place. by_equation _;
       write_event = λ e before place. by_equation_lent _ _;
+      write_reply = λ written. by_equation _;
       stop_reply = λ stop. by_equation _;
       run = λ p s budget before. by_equation_lent _ _;
     }

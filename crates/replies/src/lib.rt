@@ -8,7 +8,7 @@ ghost use Rattle.replies.specs.Promises.{ReadsNumber, WritesNumber, ReadsEvent, 
 ghost use Rattle.replies.specs.Promises.{TellsWritten, TellsStop};
 
 use bay::Bay;
-use event::Event;
+use event::{Event, NO_EVENT};
 use phy::Phy;
 use run::Stop;
 use table::Refusal;
@@ -72,16 +72,6 @@ const STOPPED_AT_END: u64 = 0;
 const STOPPED_AT_BUDGET: u64 = 1;
 
 const STOPPED_AT_FAULT: u64 = 2;
-
-const NO_EVENT: Event = Event {
-    code: 0,
-    first: 0,
-    second: 0,
-    third: 0,
-    fourth: 0,
-    fifth: 0,
-    sixth: 0,
-};
 
 // No value, and the place does not move.
 fn no_number(place: usize, refusal: u64) -> NumberReply

@@ -40,7 +40,7 @@ pub fn event_at(trace: &[u8], place: usize) -> Result<Option<Found<ShelfEvent>>,
 }
 
 // What stands at the place of a reader of a shelf trace; after an event the reader stands behind it. It is like
-// `Reader::next`: one function for both would take `event_at` as a closure, and so ask something of its caller.
+// `Reader::next`: one function for both would ask a trait of `trace`, which cannot be had here for a type of `event`.
 pub fn next<'a>(reader: &mut Reader<'a>) -> Result<Option<Found<ShelfEvent>>, Fault>
     ensures { TakesShelf reader.old result reader.new }
 {

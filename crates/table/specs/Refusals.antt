@@ -1,5 +1,5 @@
 -- The numbers of refusal, in the paper's order. 0 says that nothing is refused.
-use Rattle.std.specs.Prelude.{ℕ}
+use Rattle.std.specs.Prelude.{ℕ, ◌≡◌}
 use Rattle.table.specs.declared.Refusal.{Refusal}
 use Rattle.table.specs.declared.Refusal.TheVariants.{BadState, BadEvent, Busy, NothingPending, NotConnected}
 use Rattle.table.specs.declared.Refusal.TheVariants.{WrongProtocol, Cut, Overlong, TooLarge, NoRoom, QueueFull}
@@ -67,3 +67,7 @@ number_of TooLarge = too_large
 number_of NoRoom = no_room
 number_of QueueFull = queue_full
 number_of NoSuchPhy = no_such_phy
+
+-- `from` of a refusal: its number
+abbrev pub TellsNumber : Refusal → ℕ → Type 0
+TellsNumber refusal n = n ≡ number_of refusal

@@ -2,8 +2,7 @@
 // of a flag. How a definition chooses, by a test or by the row of a table, is in specs/Choice.antt.
 #![tactic(auto)]
 
-ghost use Rattle.std.specs.Prelude.{◌≡◌};
-ghost use Rattle.table.specs.Refusals.{number_of};
+ghost use Rattle.table.specs.Refusals.{TellsNumber};
 
 // Why something is refused, with the paper's number.
 #[derive(Clone, Copy, Debug, PartialEq, Eq)]
@@ -24,7 +23,7 @@ pub enum Refusal {
 }
 
 impl From<Refusal> for u64 {
-    ghost from_gives = { λ refusal n. n ≡ number_of refusal };
+    ghost from_gives = { TellsNumber };
 
     fn from(refusal: Refusal) -> u64 {
         refusal as u64
