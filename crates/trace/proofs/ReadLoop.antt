@@ -77,3 +77,10 @@ module _ {s : List ℕ} {code place : ℕ} {values : List ℕ} {next i : ℕ} (t
 
   pub taken_done : argument_count code ≤ i → after_code code s place ≡ got (event_of code values) next
   taken_done h = rw (all h) (ap (λ (e : Event). got e next) (same_event code (take i values) values (kept i values t.zeros)))
+
+-- ---- none is asked for
+
+-- a code without arguments has the event of zeros, at the place itself
+pub none_asked : {code : ℕ} (s : List ℕ) (place : ℕ) → argument_count code ≤ 0 → after_code code s place ≡ got (event_of code []) place
+unfolding arguments argument_count
+none_asked {code} s place h = rw (drop_of_length-le (arguments_of code) h) refl

@@ -31,6 +31,22 @@ fn read_arguments(s: &[u8], code: u64, place: usize) -> Result<Found<Event>, Ref
     ensures { ReadsArguments s.now code place result }
 {
     let count = event::argument_count(code);
+    // Most events have none: they leave before the loop is set up.
+    if count == 0 {
+        let event = Event {
+            code,
+            first: 0,
+            second: 0,
+            third: 0,
+            fourth: 0,
+            fifth: 0,
+            sixth: 0,
+        };
+        return Ok(Found {
+            value: event,
+            next: place,
+        });
+    }
     // An argument that the event lacks stays zero.
     let mut values = [0u64; 6];
     let mut next = place;

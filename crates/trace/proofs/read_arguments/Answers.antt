@@ -3,7 +3,7 @@ use mathlib.Core.Path.{sym}
 use native.Mathlib.Omega.{arith}
 use Rattle.std.proofs.lemmas.Result.{err_from_is_err_and}
 use Rattle.trace.proofs.Known.{six_arguments}
-use Rattle.trace.proofs.ReadLoop.{taken_fault, taken_bad, taken_on, taken_done}
+use Rattle.trace.proofs.ReadLoop.{taken_fault, taken_bad, taken_on, taken_done, none_asked}
 use Rattle.trace.proofs.read_arguments.Goals as goal
 
 pub returns-in_err-argument : goal.returns-in_err-argument
@@ -27,3 +27,6 @@ returns-then-not-in_range c =
 pub loop-i-preserved : goal.loop-i-preserved
 loop-i-preserved c =
     taken_on c.loop-i.invariant (omega arith) (sym c.in_ok-argument.ensures) (rw (← c.argument_range-range.ensures) c.if-not-in_range.false)
+
+pub returns-then-count-eq0 : goal.returns-then-count-eq0
+returns-then-count-eq0 c = sym (none_asked _ _ (omega (arith, c.if-count-eq0.true)))
