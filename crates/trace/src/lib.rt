@@ -8,7 +8,7 @@ ghost use Rattle.trace.specs.Writing.{all_numbers, event_bytes};
 ghost use Rattle.trace.specs.Promises.{ReadsArguments, ReadsNumbers, ReadsEvent, ReachesPlace, StartsReader, TakesNext};
 ghost use Rattle.trace.specs.Promises.{HasRoom, FillsBuffer, WritesEvent};
 
-use event::Event;
+use event::{Event, NO_EVENT};
 use number::Found;
 use table::Refusal;
 
@@ -33,17 +33,8 @@ fn read_arguments(s: &[u8], code: u64, place: usize) -> Result<Found<Event>, Ref
     let count = event::argument_count(code);
     // Most events have none: they leave before the loop is set up.
     if count == 0 {
-        let event = Event {
-            code,
-            first: 0,
-            second: 0,
-            third: 0,
-            fourth: 0,
-            fifth: 0,
-            sixth: 0,
-        };
         return Ok(Found {
-            value: event,
+            value: Event { code, ..NO_EVENT },
             next: place,
         });
     }
