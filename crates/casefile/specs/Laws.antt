@@ -16,7 +16,8 @@ use Rattle.phy.specs.declared.Phy.{Phy}
 -- ---- results are determined (proofs/Determined)
 
 -- two results that a function may give coincide, as do the arrays and windows that it may leave; `next_case` where
--- nothing is read, since nothing or enough is ahead, and `put_repeats` unless a write failed
+-- nothing is read, since nothing or enough is ahead, and `put_repeats` and `take_all` unless a write failed; of
+-- `take_case`, which any program has, the file
 pub record Determined : Type 0 where
   pub take : (s : List ℕ) (place : ℕ) → Determines (TakesNumber s place)
   pub take_bytes : (s : List ℕ) (place : ℕ) → Determines (TakesBytes s place)

@@ -1,4 +1,4 @@
-// Counters held as an array of arrays. What is refused changes nothing; `refusal` says by which number.
+// Counters held as an array of arrays. What is refused changes nothing; `refusal` says why.
 ghost use Rattle.std.specs.Prelude.{◌≡◌};
 ghost use Rattle.counts.specs.Promises.{Clears, Raises, Asks};
 

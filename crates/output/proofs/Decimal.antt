@@ -1,4 +1,4 @@
--- The definition takes one digit after the other off the end of a number, as the code does, and stops at one that is left;
+-- The definition takes one digit after the other off the end of a number, as the library's does, and stops at one that is left;
 -- it may take off more digits than the number has, and it is all the same how many more.
 use Prim.Native.Nat.{ℕ, zero, suc, ◌*◌, ◌/◌, ◌%◌, ◌^◌, ◌≤◌, ◌<◌}
 use mathlib.Core.List.{List, [], ◌∷◌, ◌++◌}

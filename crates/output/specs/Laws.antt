@@ -54,6 +54,6 @@ PutsStayLost = (bytes : List ℕ) → StaysLost (Puts bytes)
 abbrev pub LinesStayLost : Type 0
 LinesStayLost = (bytes : List ℕ) → StaysLost (PutsLine bytes)
 
--- and `write_out` gives it again
+-- and writing out leaves it so
 abbrev pub OutStaysLost : Type 0
 OutStaysLost = (least r : ℕ) → WritesOut lost least r → r ≡ lost

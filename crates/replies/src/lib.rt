@@ -1,5 +1,5 @@
-// Reading, writing and running with answers that are records of numbers alone, where those below answer
-// by an enum: for C callers, and for programs that print them.
+// Reading, writing and running with answers that are records of numbers alone, where those below answer by a
+// `Result` or an enum: for C callers, and for programs that print them.
 #![tactic(auto)]
 
 ghost use Rattle.std.specs.Prelude.{◌≡◌};

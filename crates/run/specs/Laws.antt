@@ -24,9 +24,10 @@ use Rattle.run.specs.Running.{Halt, at_end, at_budget, at_fault, refused, Course
 use Rattle.run.specs.Running.{buffer_after, tells_stop, tells}
 use Rattle.run.specs.Promises.{GivesByte, Runs}
 
--- ---- the result is determined (proofs/Determined)
+-- ---- results are determined (proofs/Determined)
 
--- each way to stop and each result say one thing; two that `run` may give coincide, as do the buffers that it leaves
+-- each way to stop and each result of `run` say one thing; two that a function may give coincide, as do the buffers
+-- that it may leave
 pub record Determined : Type 0 where
   pub stop_once : TellsOnce tells_stop
   pub ran_once : TellsOnce tells

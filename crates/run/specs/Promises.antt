@@ -1,4 +1,4 @@
--- What each function promises, cited by its `ensures` and, of the public one, by `Determined` in Laws.
+-- What each function promises, cited by its `ensures` and, of the public ones, by `Determined` in Laws.
 use Rattle.std.specs.Prelude.{ℕ, ◌%◌, ◌≤◌, true, List, ◌≡◌, length}
 use Rattle.std.proofs.lemmas.List.Edits.{sets}
 use Rattle.table.specs.Results.{Leaves}
