@@ -5,7 +5,8 @@ use crate::{BUFFER, Input, START, next_case};
 use output::Text;
 use std::io::Read;
 
-// What a program's cases are.
+// What a program's cases are. What a case works on stays four parameters, here and below: a record of them would
+// carry the handle's type and two lifetimes into each signature.
 pub trait Cases {
     // The case of a kind, whose numbers come next. An unknown kind ends the run: nothing after it could be told apart.
     fn take_case(rt: &(impl Print + Eprint), kind: u64, input: &mut Input, text: &mut Text)
@@ -13,7 +14,7 @@ pub trait Cases {
 }
 
 // All cases of a file, whose output goes out by way of a text. In the first turn nothing is ahead yet: no case is
-// there to take.
+// there to take. The turns that are left are counted in the turn, as `GoesOn` says.
 pub fn take_all<C: Cases>(rt: &(impl Print + Eprint), file: &mut impl Read, text: &mut Text)
     ensures { TakesAll text.new.n }
 {

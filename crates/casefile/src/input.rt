@@ -3,7 +3,8 @@ ghost use Rattle.casefile.specs.Promises.{Reads, TakesNumber, TakesBytes, TakesN
 
 use number::{Found, read_number};
 
-// A case file, and the place where it is read next.
+// A case file, and the place where it is read next. Any place may stand there, as `TakesNumber` says; so where a case
+// ends is no invariant, but `EndsWithin` in the contracts.
 #[derive(Clone, Copy)]
 pub struct Input<'a> {
     pub s: &'a [u8],

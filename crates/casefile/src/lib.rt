@@ -27,7 +27,8 @@ pub const PHY_NUMBERS: usize = 16;
 // The numbers of an event: its code and six arguments.
 pub const EVENT_NUMBERS: usize = 7;
 
-// The part of the window that holds what is to come, and whether the file has ended.
+// The part of the window that holds what is to come, and whether the file has ended. `Slides` names all three, so the
+// part is no slice, and says of each whatever the others are.
 #[derive(Clone, Copy, Debug, PartialEq, Eq)]
 pub struct Ahead {
     pub from: usize,

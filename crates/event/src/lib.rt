@@ -8,7 +8,7 @@ ghost use Rattle.event.specs.Names.{time_stamp, most_counter};
 ghost use Rattle.event.specs.Table.{◌to◌, tx_open_arguments, open_arguments, range_at, arguments_known};
 ghost use Rattle.event.specs.Promises.{CountsArguments, GivesRange, TellsCodeInTrace, TellsKnown, TellsKnownInTrace, TellsOpenKnown, MakesOpen, MakesTxOpen};
 
-// Protocols.
+// Protocols: numbers, as the records of the C interface have them.
 pub const SMP: u64 = 0;
 
 pub const STP: u64 = 2;

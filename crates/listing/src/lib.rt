@@ -15,7 +15,7 @@ use output::Text;
 use trace::Fault;
 
 // What the line of an event says behind its place: the event's code, what the step reported, of two
-// notices the last, and the phy after it.
+// notices the last, and the phy after it. A shelf's record of columns is another one: it has other columns.
 #[derive(Clone, Copy)]
 pub(crate) struct Columns {
     pub(crate) event: u64,

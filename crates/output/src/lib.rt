@@ -75,7 +75,7 @@ impl<'a> Text<'a> {
         }
     }
 
-    // Bytes as they are.
+    // Bytes as they are, one by one, since what has no room is left out.
     pub fn put_all(&mut self, bytes: &[u8])
         ensures { Extends (PutsAll bytes.now) self.old self.new }
     {

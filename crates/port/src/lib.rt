@@ -16,7 +16,7 @@ pub use taking::{concerned, take};
 // The most phys of a port.
 pub const MOST_PHYS: usize = 8;
 
-// The number of the port itself; of hand-outs, that there was none.
+// The number of the port itself; of hand-outs, that there was none. It is a number, since C callers give and get it.
 pub const THE_PORT: u64 = 127;
 
 // What an event reports: an answer with the arguments of its Open, at most two notices, a primitive sent,

@@ -87,7 +87,7 @@ pub fn oldest(queue: &[u64]) -> Open
     open_at(queue, 0)
 }
 
-// The numbers of an Open, in the order of its fields.
+// The numbers of an Open, in the order of its fields. No `From`: the record and the array are of others.
 fn numbers_of(open: Open) -> [u64; NUMBERS_EACH]
     ensures { result ≡ numbers_of «open» }
 {

@@ -134,7 +134,7 @@ fn take_events(bay: Bay, trace: &[u8], budget: usize, buffer: &mut [u8]) -> Ran
     }
 }
 
-// A run of any phy over any trace; refused, it takes nothing.
+// A run of any phy over any trace; refused, it takes nothing. Trace, budget and buffer stay apart: C lends them so.
 pub fn run(phy: Phy, trace: &[u8], budget: usize, buffer: &mut [u8]) -> Ran
     ensures { Runs phy trace.now budget buffer.old result buffer.new }
 {

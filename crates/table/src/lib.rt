@@ -30,7 +30,7 @@ impl From<Refusal> for u64 {
     }
 }
 
-// A flag; any other number is none.
+// A flag is a number, so that a record that C lends has its type whatever it holds; any other number is none.
 pub const OFF: u64 = 0;
 
 pub const ON: u64 = 1;

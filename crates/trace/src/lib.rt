@@ -38,7 +38,7 @@ fn read_arguments(s: &[u8], code: u64, place: usize) -> Result<Found<Event>, Ref
             next: place,
         });
     }
-    // An argument that the event lacks stays zero.
+    // An argument that the event lacks stays zero. No heap is had, so there is room for the most.
     let mut values = [0u64; 6];
     let mut next = place;
     for i in 0..count {
@@ -116,7 +116,7 @@ impl<'a> Reader<'a> {
     }
 }
 
-// An event's code and its six arguments, also those that it lacks.
+// An event's code and its six arguments, also those that it lacks. No `From`: the record and the array are of others.
 fn all_numbers(e: Event) -> [u64; 7]
     ensures { result ≡ all_numbers e }
 {
