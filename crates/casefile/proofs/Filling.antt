@@ -11,19 +11,14 @@ use lib.Seq.{sets, set_out}
 use Rattle.table.specs.Choice.{pick}
 use Rattle.output.specs.Writing.{reached}
 use Rattle.output.specs.Promises.{Puts}
-use Rattle.output.proofs.Places.{Putting, putting_start, puts_none, puts_then, puts_long}
+use Rattle.output.proofs.Places.{sets_out, Putting, putting_start, puts_none, puts_then, puts_long}
 use Rattle.casefile.specs.Reading.{taken}
 use Rattle.casefile.specs.Pieces.{repeated, string_at, piece_at, pieces_at, place_behind, all_pieces}
 use Rattle.casefile.specs.Promises.{PutsPiece, PutsPieces, TakesNumber, TakesBytes}
 use Rattle.number.specs.declared.Found.{Found}
 
--- a buffer that is full stays as it is
-full : (bytes before : List ℕ) (n : ℕ) → length before ≤ n → before ≡ sets before n bytes
-full [] before n h = refl
-full (b ∷ bytes) before n h = rw (set_out before n b h) (full bytes before (suc n) (omega arith))
-
 puts_full : (bytes before : List ℕ) (n : ℕ) → length before ≤ n → Puts bytes before n n before
-puts_full bytes before n h = record { there = omega arith; stored = full bytes before n h }
+puts_full bytes before n h = record { there = omega arith; stored = sym (sets_out before bytes n h) }
 
 -- ---- one piece, so many times
 

@@ -23,7 +23,7 @@ pub enum Receiver {
     Completed = 3,
 }
 
-// The events' codes, as C hands them in.
+// The events' codes, as C hands them in: no discriminants of `Event`, since two of the events carry an argument.
 pub const SOAF: u64 = 0;
 
 pub const DATA_DWORD: u64 = 1;

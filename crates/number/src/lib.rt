@@ -19,7 +19,8 @@ pub struct Found<T> {
     pub next: usize,
 }
 
-// The number at a place of a slice; any place is taken, and past the end a number is cut.
+// The number at a place of a slice; any place is taken, and past the end a number is cut. Slice and place stay apart,
+// here and in `trace` and `shelf`: C lends them so, and the contracts name both.
 pub fn read_number(s: &[u8], place: usize) -> Result<Found<u64>, Refusal>
     ensures { ReadsNumber s.now place result }
 {
@@ -80,6 +81,7 @@ pub fn write_number(value: u64, buffer: &mut [u8], place: usize) -> Result<usize
     ensures { WritesNumber value buffer.old place result buffer.new }
 {
     let length = number_length(value);
+    // Two tests: by `saturating_sub` it would take two instructions more.
     if buffer.len() < place || buffer.len() - place < length {
         return Err(Refusal::NoRoom);
     }

@@ -14,7 +14,8 @@ use Rattle.output.specs.Promises.{Extends, Puts, PutsAll, WritesOut, PutsLine}
 use Rattle.output.specs.declared.Text.{Text}
 use Rattle.output.specs.Laws.{PutsStayLost, LinesStayLost, OutStaysLost}
 
-sets_out : (buffer xs : List ℕ) (at : ℕ) → length buffer ≤ at → sets buffer at xs ≡ buffer
+-- a buffer that is full stays as it is
+pub sets_out : (buffer xs : List ℕ) (at : ℕ) → length buffer ≤ at → sets buffer at xs ≡ buffer
 sets_out buffer [] at h = refl
 sets_out buffer (x ∷ xs) at h = rw (set_out buffer at x h) (sets_out buffer xs (suc at) (omega arith))
 

@@ -1,5 +1,5 @@
-// The paper's numbers of the phy. They are no enums: a record of the C interface has them as numbers, a move takes any
-// record, and each choice would first ask whether a number is one, for which a run would pay.
+// The paper's numbers of the phy. They are no enums: a record of the C interface has them as numbers, and a move takes
+// any record, so that each choice by one would first ask whether a number is one.
 
 // Link states: Idle, ArbSel, Selected, Connected, DisconnectWait, BreakWait, Break.
 pub const L0: u64 = 0;
@@ -60,7 +60,8 @@ pub const ANSWER_PORT_LAYER_REQUEST: u64 = 71;
 // Ours, at a reset.
 pub const ANSWER_TERMINATED: u64 = 80;
 
-// Notices: a connection opened, and how one closed.
+// Notices: a connection opened, and how one closed. Like the primitives they are only put into a record, never chosen
+// by: an enum would be written out as a number each time.
 pub const NOTICE_OPENED: u64 = 1;
 
 pub const NOTICE_CLOSED_NORMAL: u64 = 2;

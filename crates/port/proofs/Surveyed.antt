@@ -94,7 +94,7 @@ surveyed bays l =
 
 -- ---- sound exactly where valid
 
-opens_pass : (os : List Open) → AllKnown os → all_pass open_known os ≡ true
+pub opens_pass : (os : List Open) → AllKnown os → all_pass open_known os ≡ true
 opens_pass [] k = refl
 opens_pass (o ∷ os) k = rw (k.0, opens_pass os k.1)
 

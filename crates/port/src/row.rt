@@ -34,7 +34,8 @@ pub fn survey(row: &[Bay], from: Scan) -> Scan
     row.iter().fold(from, |scan, &bay| scan.noted(bay))
 }
 
-// Any row, queue, number and event. An event concerns one record at most, and that alone is put.
+// Any row, queue, number and event. An event concerns one record at most, and that alone is put. Number and event stay
+// apart, here and below: C lends them so, and `Takes` and `Steps` name both.
 #[tactic(auto, using(crate::proofs::InPlace::in_place))]
 pub fn step(row: &mut [Bay], queue: &mut [u64], number: u64, event: Event) -> Stepped
     ensures { Steps row.old queue.old number event result row.new queue.new }

@@ -17,6 +17,7 @@ use Rattle.bay.specs.State as bayState
 use Rattle.bay.specs.State.{fresh_bay}
 use Rattle.bay.specs.declared.Bay.{Bay}
 use Rattle.queue.specs.Laws.{AllKnown}
+use Rattle.port.proofs.Surveyed.{opens_pass}
 use Rattle.port.specs.State.{Port, is_free, free_of, free_phys, all_pass, none_beside, fresh_port}
 use Rattle.port.specs.Step.{bay_at}
 use Rattle.port.specs.Log.{after}
@@ -41,10 +42,6 @@ pub none_idle : (bays : List Bay) → free_phys bays ≡ 0 → (i : ℕ) → i <
 none_idle bays n i l d = false≢true (sym (none_set (free_of bays) i n) ∙ get_or-map is_free bays i fresh_bay false l ∙ is_free_lem (bay_at bays i) d)
 
 -- ---- the rules
-
-all_known : (os : List Open) → AllKnown os → all_pass open_known os ≡ true
-all_known [] k = refl
-all_known (o ∷ os) k = rw (k.0, all_known os k.1)
 
 all_valid : (bays : List Bay) → ((i : ℕ) → i < length bays → bayState.valid_of (bay_at bays i) ≡ true) → all_pass bayState.valid_of bays ≡ true
 all_valid [] h = refl
@@ -71,7 +68,7 @@ not_beside p (inr n) = rw (eq-eqb (free_phys p.bays) 0 (none (free_phys p.bays) 
 pub valid_exactly : ValidExactly
 valid_exactly limit p = (
   (λ v. let s = sound limit p v in record { some = s.some; few = s.few; bays = bay_valid limit p v; short = s.short; known = known_all p.queue s.known; alone = alone p s.beside }),
-  (λ r. sound_valid limit p (record { some = r.some; few = r.few; bays = all_valid p.bays r.bays; short = r.short; known = all_known p.queue r.known; beside = not_beside p r.alone })),
+  (λ r. sound_valid limit p (record { some = r.some; few = r.few; bays = all_valid p.bays r.bays; short = r.short; known = opens_pass p.queue r.known; beside = not_beside p r.alone })),
 )
 
 -- ---- after every list of shelf events

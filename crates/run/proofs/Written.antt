@@ -37,7 +37,8 @@ module _ (buffer bytes : List ℕ) (h : length bytes ≤ length buffer) where
   start_kept : drop (length bytes) (sets buffer 0 bytes) ≡ drop (length bytes) buffer
   start_kept = ap (drop (length bytes)) at_start ∙ drop_at bytes (drop (length bytes) buffer) (length bytes) refl
 
-start_longer : (buffer more bytes : List ℕ) → length bytes ≤ length buffer → sets (buffer ++ more) 0 bytes ≡ sets buffer 0 bytes ++ more
+-- bytes at the start of a longer buffer
+pub start_longer : (buffer more bytes : List ℕ) → length bytes ≤ length buffer → sets (buffer ++ more) 0 bytes ≡ sets buffer 0 bytes ++ more
 start_longer buffer more bytes h =
     at_start (buffer ++ more) bytes (omega (arith, length-append buffer more))
     ∙ ap (λ (l : List ℕ). bytes ++ l) (drop-append-le (length bytes) buffer more h)

@@ -39,8 +39,9 @@ pub fn event_at(trace: &[u8], place: usize) -> Result<Option<Found<ShelfEvent>>,
     Err(Fault { refusal, place })
 }
 
-// What stands at the place of a reader of a shelf trace; after an event the reader stands behind it. It is like
-// `Reader::next`: one function for both would ask a trait of `trace`, which cannot be had here for a type of `event`.
+// What stands at the place of a reader of a shelf trace; after an event the reader stands behind it. It is
+// like `Reader::next` but for what it reads: one for both would be these three lines over a trait, with a type of its
+// own for each kind of trace.
 pub fn next<'a>(reader: &mut Reader<'a>) -> Result<Option<Found<ShelfEvent>>, Fault>
     ensures { TakesShelf reader.old result reader.new }
 {

@@ -13,6 +13,7 @@ use output::Text;
 use port::Stepped;
 use table::Refusal;
 
+// What the line shows of no phy; an `Option` would be taken apart into this at once.
 const NO_PHY: States = States { link: 0, port: 0 };
 
 pub(crate) fn states_at(row: Row, phys: usize, number: u64) -> States

@@ -15,7 +15,8 @@ use number::Found;
 use output::Text;
 use trace::Fault;
 
-// The bays of a port, of which the first `phys` count, and the Opens that wait.
+// The bays of a port, of which the first `phys` count, and the Opens that wait. `phys` stands beside the row, since
+// `StepsRow` of `held` speaks of every bay of it, and no heap is had.
 #[derive(Clone, Copy)]
 pub struct Shelf {
     pub row: Row,

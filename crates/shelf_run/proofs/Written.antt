@@ -14,19 +14,12 @@ use Rattle.table.proofs.Stores.{stored_to, stored_from}
 use Rattle.trace.proofs.RoundTrip.{later_kept}
 use Rattle.port.specs.State.{Port}
 use Rattle.port.specs.Lent.{port_in}
+use Rattle.run.proofs.Written.{start_longer}
 use Rattle.shelf_run.specs.Running.{bytes_of, started, sound_lent, taken}
 use Rattle.shelf_run.specs.Laws.{WritesOnlyTaken, WritesTaken, LongerBuffer}
 use Rattle.shelf_run.proofs.InPlace.{counted}
 use Rattle.shelf_run.proofs.Refusals.{by_tests}
 use Rattle.shelf_run.proofs.Stopping.{stops_well_always}
-
--- bytes at the start of a longer buffer
-start_longer : (buffer more bytes : List ℕ) → length bytes ≤ length buffer → sets (buffer ++ more) 0 bytes ≡ sets buffer 0 bytes ++ more
-start_longer buffer more bytes h =
-    stored_from (buffer ++ more) bytes 0 (omega (arith, length-append buffer more))
-    ∙ ap (λ (l : List ℕ). bytes ++ l) (drop-append-le (0 + length bytes) buffer more (omega arith))
-    ∙ sym (append_assoc bytes (drop (0 + length bytes) buffer) more)
-    ∙ ap (λ (l : List ℕ). l ++ more) (sym (stored_from buffer bytes 0 (omega arith)))
 
 -- ---- the bytes of a run
 

@@ -27,7 +27,8 @@ pub(crate) fn store(row: &mut [Bay], table: Table)
     row[..n].copy_from_slice(&bays[..n]);
 }
 
-// Any row, queue, trace, budget and buffer. The rules are in `over`; this lends, and puts back.
+// Any row, queue, trace, budget and buffer. The rules are in `over`; this lends, and puts back. The five stay apart,
+// here and in `over`: C lends them so.
 pub fn run(
     row: &mut [Bay],
     queue: &mut [u64],

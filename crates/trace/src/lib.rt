@@ -160,6 +160,7 @@ pub fn write_event(e: Event, buffer: &mut [u8], place: usize) -> Result<usize, R
         return Err(Refusal::BadEvent);
     }
     let length = event_length(e);
+    // Two tests, as in `number`.
     if buffer.len() < place || buffer.len() - place < length {
         return Err(Refusal::NoRoom);
     }
