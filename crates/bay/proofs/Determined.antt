@@ -5,6 +5,7 @@ use Rattle.bay.specs.Laws.{Determined}
 pub determined : Determined
 determined =
     record {
+      unstamped = λ p. by_equation _;
       fresh = by_equation _;
       valid = λ b. by_equation _;
       stamped = λ b counter. by_equation _;

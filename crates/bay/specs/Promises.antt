@@ -2,11 +2,16 @@
 use Rattle.std.specs.Prelude.{◌≡◌, ℕ, Bool}
 use Rattle.event.specs.Table.{stamp_of}
 use Rattle.event.specs.declared.Event.{Event}
-use Rattle.bay.specs.State.{valid_of, fresh_bay}
+use Rattle.phy.specs.declared.Phy.{Phy}
+use Rattle.bay.specs.State.{valid_of, unstamped, fresh_bay}
 use Rattle.bay.specs.Step.{last_notice, step_of, move_of}
 use Rattle.bay.specs.declared.Bay.{Bay}
 use Rattle.bay.specs.declared.Report.{Report}
 use Rattle.bay.specs.declared.Stepped.{Stepped}
+
+-- the bay from a phy
+abbrev pub MakesUnstamped : Phy → Bay → Type 0
+MakesUnstamped p r = r ≡ unstamped p
 
 -- `fresh`
 abbrev pub StartsFresh : Bay → Type 0

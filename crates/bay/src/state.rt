@@ -1,10 +1,11 @@
 // Which records are valid, and the fresh one.
 ghost use Rattle.std.specs.Prelude.{◌≡◌, ◌&&◌};
 ghost use Rattle.bay.specs.State.{valid_base_set, valid_base};
-ghost use Rattle.bay.specs.Promises.{StartsFresh, TellsValid};
+ghost use Rattle.bay.specs.Promises.{StartsFresh, TellsValid, MakesUnstamped};
 
 use crate::Bay;
 use event::MOST_COUNTER;
+use phy::Phy;
 use table::{OFF, ON};
 
 // The clock alone: a base that is not set is zero.
@@ -22,12 +23,21 @@ pub fn valid(bay: Bay) -> bool
     phy::valid(bay.phy) & valid_clock(bay)
 }
 
+// A phy whose recorder has written no stamp yet.
+impl From<Phy> for Bay {
+    ghost from_gives = { MakesUnstamped };
+
+    fn from(phy: Phy) -> Bay {
+        Bay {
+            phy,
+            base: 0,
+            baseSet: OFF,
+        }
+    }
+}
+
 pub fn fresh() -> Bay
     ensures { StartsFresh result }
 {
-    Bay {
-        phy: phy::fresh(),
-        base: 0,
-        baseSet: OFF,
-    }
+    Bay::from(phy::fresh())
 }

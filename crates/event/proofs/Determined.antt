@@ -13,4 +13,5 @@ determined =
       open_known = λ o. by_equation _;
       open_of = λ e. by_equation _;
       tx_open_of = λ o. by_equation _;
+      numbers_of = λ o. by_equation _;
     }

@@ -4,7 +4,7 @@ use Rattle.table.specs.Results.{Determines}
 use Rattle.event.specs.Names.{most_counter}
 use Rattle.event.specs.Table.{known_of, known_in_trace, stamp_of}
 use Rattle.event.specs.Promises.{TellsKnown, TellsKnownInTrace, TellsCodeInTrace, CountsArguments, GivesRange}
-use Rattle.event.specs.Promises.{TellsOpenKnown, MakesOpen, MakesTxOpen}
+use Rattle.event.specs.Promises.{TellsOpenKnown, MakesOpen, MakesTxOpen, ListsOpen}
 use Rattle.event.specs.declared.Event.{Event}
 use Rattle.event.specs.declared.Open.{Open}
 
@@ -20,6 +20,7 @@ pub record Determined : Type 0 where
   pub open_known : (o : Open) → Determines (TellsOpenKnown o)
   pub open_of : (e : Event) → Determines (MakesOpen e)
   pub tx_open_of : (o : Open) → Determines (MakesTxOpen o)
+  pub numbers_of : (o : Open) → Determines (ListsOpen o)
 
 -- ---- events of a trace and of a phy (proofs/InTrace)
 

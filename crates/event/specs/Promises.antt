@@ -1,7 +1,7 @@
 -- What each public function promises, cited by its `ensures` and by `Determined` in Laws.
-use Rattle.std.specs.Prelude.{ℕ, Bool, ◌≡◌}
+use Rattle.std.specs.Prelude.{ℕ, Bool, List, ◌≡◌}
 use Rattle.event.specs.Table.{argument_count, argument_range, code_in_trace, known_of, known_in_trace, open_known}
-use Rattle.event.specs.Table.{open_of, tx_open_of}
+use Rattle.event.specs.Table.{open_of, numbers_of, tx_open_of}
 use Rattle.event.specs.declared.Range.{Range}
 use Rattle.event.specs.declared.Event.{Event}
 use Rattle.event.specs.declared.Open.{Open}
@@ -33,6 +33,10 @@ TellsOpenKnown o r = r ≡ open_known o
 -- the Open from an event
 abbrev pub MakesOpen : Event → Open → Type 0
 MakesOpen e r = r ≡ open_of e
+
+-- the numbers from an Open
+abbrev pub ListsOpen : Open → List ℕ → Type 0
+ListsOpen o r = r ≡ numbers_of o
 
 -- the Tx Open from an Open
 abbrev pub MakesTxOpen : Open → Event → Type 0

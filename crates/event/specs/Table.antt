@@ -124,6 +124,10 @@ open_of e =
       wait = e.sixth;
     }
 
+-- the arguments of an Open, in the order of its fields
+abbrev pub numbers_of : Open → List ℕ
+numbers_of o = o.destination ∷ o.protocol ∷ o.rate ∷ o.tag ∷ o.blockedCount ∷ o.wait ∷ []
+
 -- the Tx Open of an Open
 abbrev pub tx_open_of : Open → Event
 tx_open_of o = event_of tx_open (o.destination ∷ o.protocol ∷ o.rate ∷ o.tag ∷ o.blockedCount ∷ o.wait ∷ [])

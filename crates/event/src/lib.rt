@@ -6,7 +6,7 @@ ghost use Rattle.std.specs.Prelude.{◌≡◌, ◌&&◌, eqb, leb, [], ◌∷◌
 ghost use Rattle.table.specs.Choice.{pick};
 ghost use Rattle.event.specs.Names.{time_stamp, most_counter};
 ghost use Rattle.event.specs.Table.{◌to◌, tx_open_arguments, open_arguments, range_at, arguments_known};
-ghost use Rattle.event.specs.Promises.{CountsArguments, GivesRange, TellsCodeInTrace, TellsKnown, TellsKnownInTrace, TellsOpenKnown, MakesOpen, MakesTxOpen};
+ghost use Rattle.event.specs.Promises.{CountsArguments, GivesRange, TellsCodeInTrace, TellsKnown, TellsKnownInTrace, TellsOpenKnown, MakesOpen, MakesTxOpen, ListsOpen};
 
 // Protocols: numbers, as the records of the C interface have them.
 pub const SMP: u64 = 0;
@@ -148,6 +148,22 @@ impl From<Open> for Event {
             fifth: o.blockedCount,
             sixth: o.wait,
         }
+    }
+}
+
+// The arguments of an Open, in the order of its fields.
+impl From<Open> for [u64; 6] {
+    ghost from_gives = { ListsOpen };
+
+    fn from(o: Open) -> [u64; 6] {
+        [
+            o.destination,
+            o.protocol,
+            o.rate,
+            o.tag,
+            o.blockedCount,
+            o.wait,
+        ]
     }
 }
 

@@ -1,12 +1,13 @@
 -- Writing one thing after another is writing both: a store past the end changes nothing, so what has no room is left out either way.
-use Prim.Native.Nat.{ℕ, suc, ◌+◌, ◌≤◌, ◌<◌}
-use mathlib.Core.List.{List, [], ◌∷◌, ◌++◌}
+use Prim.Native.Nat.{ℕ, suc, ◌+◌, ◌-◌, ◌≤◌, ◌<◌, min}
+use mathlib.Core.List.{List, [], ◌∷◌, ◌++◌, append_assoc}
 use mathlib.Core.Path.{◌≡◌, refl, sym, ap, ap₂, subst, ◌∙◌}
 use native.Mathlib.Numerals.{add-one}
 use native.Mathlib.Omega.{arith}
+use borrow.Rule.Slice.PartMut.{put_mid}
 use lib.Dec.{ltb}
-use lib.ListN.{length, take, drop, get_or, length-append, drop_of_length-le}
-use lib.Seq.{sets, set_out, length-sets, drop-cons}
+use lib.ListN.{length, take, drop, get_or, length-append, take-append-drop, drop_of_length-le}
+use lib.Seq.{sets, sets-eq, set_out, length-sets, length-take-le, take_all, drop-drop, drop-cons}
 use Rattle.table.proofs.Laws.{by_test, by_order}
 use Rattle.table.proofs.Stores.{sets_on, stored_to}
 use Rattle.output.specs.Writing.{further, more_of, reached, gathered, lost}
@@ -89,14 +90,6 @@ module _ {whole before left out : List ℕ} {n end : ℕ} (p : Putting whole bef
   putting_done : left ≡ [] → Puts whole before n end out
   putting_done e = p.rest end out (rw e (puts_none out end))
 
--- bytes one by one
-pub bytes_on : {whole before out next : List ℕ} {n end m : ℕ} (bytes : List ℕ) (i : ℕ) → Putting whole before n (drop i bytes) out end → i < length bytes
-    → Puts (get_or bytes i 0 ∷ []) out end m next → Putting whole before n (drop (i + 1) bytes) next m
-bytes_on bytes i p h q = putting_on p (drop-cons bytes i 0 h ∙ rw add-one refl) q
-
-pub bytes_done : {whole before out : List ℕ} {n end : ℕ} (bytes : List ℕ) (i : ℕ) → Putting whole before n (drop i bytes) out end → length bytes ≤ i → Puts whole before n end out
-bytes_done bytes i p h = putting_done p (drop_of_length-le bytes h)
-
 -- further numbers one by one
 pub more_on : {T : Type 0} (value : T → ℕ) {whole before out next : List ℕ} {n end m v : ℕ} (numbers : List T) (i : ℕ) (d : T)
     → Putting whole before n (more_of value (drop i numbers)) out end → i < length numbers
@@ -125,3 +118,37 @@ lines_stay_lost bytes before r after h p =
 
 pub out_stays_lost : OutStaysLost
 out_stays_lost least r w = by_test (ltb lost least) (λ t. rw t at w) (λ t. rw t at w)
+
+-- ---- bytes that are written at once
+
+-- what has no room changes nothing
+fitting : (before bytes : List ℕ) (n fits : ℕ) → fits ≡ min (length bytes) (length before - n) → sets before n (take fits bytes) ≡ sets before n bytes
+fitting before bytes n fits e =
+    by_order (length before - n) (length bytes)
+    (λ h. let long : length (take fits bytes) ≡ fits = length-take-le fits bytes (omega arith) in
+    sym (ap (sets before n) (sym (take-append-drop fits bytes))
+    ∙ sets_on before (take fits bytes) (drop fits bytes) n
+    ∙ sets_out (sets before n (take fits bytes)) (drop fits bytes) (n + length (take fits bytes)) (rw (length-sets before n (take fits bytes), long) (omega arith))))
+    (λ h. ap (sets before n) (take_all fits bytes (omega arith)))
+
+-- a run that is written over a part as long is stored there
+put_run : (before run : List ℕ) (at n : ℕ) → at + length run ≤ length before → n ≡ length run → put_mid at n before run ≡ sets before at run
+put_run before run at n h e =
+    rw (drop-drop n at before, e) (sym (append_assoc (take at before) run (drop (at + length run) before))) ∙ sym (sets-eq run before at h)
+
+module _ (before bytes run : List ℕ) (n at fits : ℕ) (e : at ≡ min n (length before)) (f : fits ≡ min (length bytes) (length before - at)) (g : run ≡ take fits bytes) where
+  run_long : length run ≡ fits
+  run_long = rw g (length-take-le fits bytes (omega arith))
+
+  run_stored : put_mid at fits before run ≡ sets before n bytes
+  run_stored =
+      put_run before run at fits (rw run_long (omega arith)) (sym run_long)
+      ∙ by_order n (length before)
+      (λ h. let same : at ≡ n = omega arith in
+      rw (same, g) (fitting before bytes n fits (omega arith)))
+      (λ h. let none : fits ≡ 0 = omega arith in rw (g, none) (sym (sets_out before bytes n h)))
+
+  pub puts_run : PutsAll bytes before n (n + fits) (put_mid at (at + fits - at) before run)
+  puts_run =
+      let same : at + fits - at ≡ fits = omega arith in
+      puts_within (record { there = omega arith; stored = rw same run_stored })

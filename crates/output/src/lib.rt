@@ -75,13 +75,14 @@ impl<'a> Text<'a> {
         }
     }
 
-    // Bytes as they are, one by one, since what has no room is left out.
+    // Bytes as they are, as many as have room.
     pub fn put_all(&mut self, bytes: &[u8])
         ensures { Extends (PutsAll bytes.now) self.old self.new }
     {
-        for b in bytes {
-            self.put(*b);
-        }
+        let at = self.n.min(self.out.len());
+        let fits = bytes.len().min(self.out.len() - at);
+        self.out[at..at + fits].copy_from_slice(&bytes[..fits]);
+        self.n += fits;
     }
 
     // The digits of a number.

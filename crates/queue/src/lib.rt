@@ -4,7 +4,7 @@
 
 ghost use Rattle.std.specs.Prelude.{◌+◌, ◌≤◌, ◌≡◌, length, get_or, drop};
 ghost use Rattle.std.proofs.lemmas.List.Edits.{sets};
-ghost use Rattle.queue.specs.Lent.{most_waiting, lent_length, numbers_of, open_from, queue_in, all_zero};
+ghost use Rattle.queue.specs.Lent.{most_waiting, lent_length, open_from, queue_in, all_zero};
 ghost use Rattle.queue.specs.Promises.{Judges, GivesOldest, Joins, Advances};
 
 use event::Open;
@@ -87,20 +87,6 @@ pub fn oldest(queue: &[u64]) -> Open
     open_at(queue, 0)
 }
 
-// The numbers of an Open, in the order of its fields. No `From`: the record and the array are of others.
-fn numbers_of(open: Open) -> [u64; NUMBERS_EACH]
-    ensures { result ≡ numbers_of «open» }
-{
-    [
-        open.destination,
-        open.protocol,
-        open.rate,
-        open.tag,
-        open.blockedCount,
-        open.wait,
-    ]
-}
-
 // One Open more behind those that wait; without room nothing changes.
 #[tactic(auto, using(crate::proofs::Places::put_run), unfolding(crate::specs::Lent::joined))]
 pub fn join(queue: &mut [u64], waiting: u64, open: Open)
@@ -108,7 +94,7 @@ pub fn join(queue: &mut [u64], waiting: u64, open: Open)
 {
     if (waiting < MOST_WAITING) & (queue.len() == LENGTH) {
         let at = NUMBERS_EACH * waiting as usize;
-        queue[at..at + NUMBERS_EACH].copy_from_slice(&numbers_of(open));
+        queue[at..at + NUMBERS_EACH].copy_from_slice(&<[u64; NUMBERS_EACH]>::from(open));
     }
 }
 

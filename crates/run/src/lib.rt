@@ -3,7 +3,6 @@
 #![tactic(auto)]
 
 ghost use Rattle.std.specs.Prelude.{◌≡◌};
-ghost use Rattle.bay.specs.State.{unstamped as state_unstamped};
 ghost use Rattle.run.specs.Running.{told, tells, tells_stop};
 ghost use Rattle.run.specs.Promises.{GivesByte, Runs, Ready, TakesEvents};
 ghost use Rattle.run.specs.Stages.{ReadyOn, GoesOn};
@@ -12,7 +11,7 @@ use bay::Bay;
 use event::TIME_STAMP;
 use number::Found;
 use phy::Phy;
-use table::{OFF, Refusal};
+use table::Refusal;
 use trace::Fault;
 
 // How a run stopped: at the trace's end, at the budget, at a fault with the place of its event, or
@@ -100,17 +99,6 @@ fn stopped(next: Bay, count: usize, stop: Stop) -> Ran
     Ran { next, count, stop }
 }
 
-// A phy whose recorder has written no stamp yet.
-fn unstamped(phy: Phy) -> Bay
-    ensures { result ≡ state_unstamped phy }
-{
-    Bay {
-        phy,
-        base: 0,
-        baseSet: OFF,
-    }
-}
-
 // The events of a trace under a budget that the buffer has room for: up to a stamp, the stamp, and so on.
 fn take_events(bay: Bay, trace: &[u8], budget: usize, buffer: &mut [u8]) -> Ran
     requires { Ready bay budget buffer.old }
@@ -138,11 +126,12 @@ fn take_events(bay: Bay, trace: &[u8], budget: usize, buffer: &mut [u8]) -> Ran
 pub fn run(phy: Phy, trace: &[u8], budget: usize, buffer: &mut [u8]) -> Ran
     ensures { Runs phy trace.now budget buffer.old result buffer.new }
 {
+    let bay = Bay::from(phy);
     if phy::valid(phy) {
         if buffer.len() < budget {
-            return stopped(unstamped(phy), 0, Stop::Refused(Refusal::NoRoom));
+            return stopped(bay, 0, Stop::Refused(Refusal::NoRoom));
         }
-        return take_events(unstamped(phy), trace, budget, buffer);
+        return take_events(bay, trace, budget, buffer);
     }
-    stopped(unstamped(phy), 0, Stop::Refused(Refusal::BadState))
+    stopped(bay, 0, Stop::Refused(Refusal::BadState))
 }

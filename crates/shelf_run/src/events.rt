@@ -12,7 +12,7 @@ use number::Found;
 use port::{MOST_PHYS, Scan, Standing};
 use replies::StopReply;
 use run::Stop;
-use table::{OFF, Refusal};
+use table::Refusal;
 
 // A table of fresh bays.
 pub(crate) fn empty() -> Table
@@ -28,12 +28,7 @@ pub(crate) fn empty() -> Table
 fn unset(bay: Bay) -> Bay
     ensures { result ≡ running_unset bay }
 {
-    let phy = bay.phy;
-    Bay {
-        phy,
-        base: 0,
-        baseSet: OFF,
-    }
+    Bay::from(bay.phy)
 }
 
 // Every base of a table unset.

@@ -1,7 +1,6 @@
 -- `run::to_stamp` meets its contract: each turn takes one event off the definition, and what comes behind is read where it stops.
-use mathlib.Core.Path.{sym, ap, ◌∙◌}
+use mathlib.Core.Path.{sym}
 use native.Mathlib.Omega.{arith}
-use Rattle.trace.specs.Reading.{tells}
 use Rattle.trace.proofs.Refusals.{end_exactly}
 use Rattle.run.proofs.Loop.{going_start, going_room, going_on, going_spent, goes_to_stamp, goes_to_budget, goes_to_fault, goes_to_end}
 use Rattle.run.proofs.to_stamp.Goals as goal
