@@ -10,7 +10,7 @@ mod records;
 mod repeats;
 mod window;
 
-pub use cases::{Cases, take_all};
+pub use cases::{Cases, UnknownKind, take_all};
 pub use input::Input;
 pub use listings::list_case;
 pub use pieces::{put_piece, put_pieces};
