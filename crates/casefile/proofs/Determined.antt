@@ -13,6 +13,7 @@ determined =
       take_bytes = λ s place. by_result (λ r a i. record { value = a.says i; next = a.there i });
       take_many = λ before s place. by_result (λ r a i. record { value = a.numbers i; next = a.there i });
       take_array = λ count s place. by_result (λ r a i. record { value = a.numbers i; next = a.there i });
+      end = λ old new later a b i. record { s = (a.ends.same_file ∙ sym b.ends.same_file) i; place = (a.there ∙ sym b.there) i };
       phy_of = λ f. by_equation _;
       phy_numbers = λ p. by_equation _;
       event_of = λ f. by_equation _;

@@ -7,7 +7,7 @@ use Rattle.casefile.specs.Records.{phy_numbers, phy_of}
 use Rattle.casefile.specs.Window.{Place, none_ahead, enough_ahead, ahead_after}
 use Rattle.casefile.specs.Promises.{TakesNumber, TakesBytes, TakesNumbers, MakesPhy, GivesNumbers, MakesEvent}
 use Rattle.casefile.specs.Promises.{TakesArray, PutsPiece, PutsPieces, PutsRepeats, Slides, GoesOn}
-use Rattle.casefile.specs.Promises.{EndsWithin, TakesPieces, TakesAll}
+use Rattle.casefile.specs.Promises.{EndsWithin, GoesToEnd, TakesPieces, TakesAll}
 use Rattle.casefile.specs.declared.input.Input.{Input}
 use Rattle.casefile.specs.declared.Ahead.{Ahead}
 use Rattle.casefile.specs.declared.Turn.{Turn}
@@ -23,6 +23,7 @@ pub record Determined : Type 0 where
   pub take_bytes : (s : List ℕ) (place : ℕ) → Determines (TakesBytes s place)
   pub take_many : (before s : List ℕ) (place : ℕ) → Determines (TakesNumbers before s place)
   pub take_array : (count : ℕ) (s : List ℕ) (place : ℕ) → Determines (TakesArray count s place)
+  pub end : (old new later : Input) → GoesToEnd old new → GoesToEnd old later → new ≡ later
   pub phy_of : (f : List ℕ) → Determines (MakesPhy f)
   pub phy_numbers : (p : Phy) → Determines (GivesNumbers p)
   pub event_of : (f : List ℕ) → Determines (MakesEvent f)

@@ -113,6 +113,11 @@ pub record EndsWithin (old new : Input) : Type 0 where
   pub within : new.place ≤ length old.s.now
   pub same_file : new.s ≡ old.s
 
+-- `end` of an input: the place after it is the file's end
+pub record GoesToEnd (old new : Input) : Type 0 where
+  pub ends : EndsWithin old new
+  pub there : new.place ≡ length old.s.now
+
 -- `list_case`, which takes the pieces at a place: it ends behind them, within the file
 pub record TakesPieces (old new : Input) : Type 0 where
   pub ends : EndsWithin old new

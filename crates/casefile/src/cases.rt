@@ -5,6 +5,10 @@ use crate::{BUFFER, Input, START, next_case};
 use output::Text;
 use std::io::Read;
 
+// No case of a program has this number.
+#[derive(Clone, Copy)]
+pub struct UnknownKind;
+
 // What a program's cases are. What a case works on stays four parameters, here and below: a record of them would
 // carry the handle's type and two lifetimes into each signature.
 pub trait Cases {

@@ -1,5 +1,5 @@
 // Numbers and byte strings of the case file.
-ghost use Rattle.casefile.specs.Promises.{Reads, TakesNumber, TakesBytes, TakesNumbers, TakesArray};
+ghost use Rattle.casefile.specs.Promises.{Reads, TakesNumber, TakesBytes, TakesNumbers, TakesArray, GoesToEnd};
 
 use number::{Found, read_number};
 
@@ -53,5 +53,12 @@ impl<'a> Input<'a> {
         let mut numbers = [0u64; N];
         self.take_many(&mut numbers);
         numbers
+    }
+
+    // The end of the file comes next, whatever is left of it.
+    pub fn end(&mut self)
+        ensures { GoesToEnd self.old self.new }
+    {
+        self.place = self.s.len();
     }
 }

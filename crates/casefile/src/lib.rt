@@ -10,7 +10,7 @@ mod records;
 mod repeats;
 mod window;
 
-pub use cases::{Cases, take_all};
+pub use cases::{Cases, UnknownKind, take_all};
 pub use input::Input;
 pub use listings::list_case;
 pub use pieces::{put_piece, put_pieces};
@@ -37,7 +37,7 @@ pub struct Ahead {
 }
 
 // A turn of a run, which takes the case that begins what is ahead, and how much output is gathered. Where no
-// turn is left the run is over.
+// turn is left the run is over. `n` is the text's place once more, since `GoesOn` says so (`gathered`).
 #[derive(Clone, Copy, Debug, PartialEq, Eq)]
 pub struct Turn {
     pub left: u64,

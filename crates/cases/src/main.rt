@@ -13,7 +13,7 @@ mod syncs;
 mod walks;
 
 use bay::Bay;
-use casefile::{BUFFER, Cases, Input, take_all};
+use casefile::{BUFFER, Cases, Input, UnknownKind, take_all};
 use identify::Identification;
 use output::Text;
 use phy::Phy;
@@ -30,10 +30,6 @@ enum Kind {
     PhyWalk,
     BayWalk,
 }
-
-// No case of this program has this number.
-#[derive(Clone, Copy)]
-struct UnknownKind;
 
 impl TryFrom<u64> for Kind {
     type Error = UnknownKind;
@@ -59,7 +55,7 @@ struct MachineCases;
 impl Cases for MachineCases {
     fn take_case(rt: &(impl Print + Eprint), kind: u64, input: &mut Input, text: &mut Text) {
         let Ok(known) = Kind::try_from(kind) else {
-            input.place = input.s.len();
+            input.end();
             return;
         };
         match known {

@@ -13,7 +13,7 @@ use output::{Text, fail, read_full};
 use port::MOST_PHYS;
 use shelf_listing::OfShelf;
 use std::env::FillError;
-use std::fmt::Display;
+use std::fmt::{self, Display};
 use std::fs::OpenOptions;
 use std::io::{Read, Write};
 use std::rt::{Env, Files};
@@ -42,6 +42,17 @@ enum Outcome {
     Damaged,
     Unwritten,
     Unread,
+}
+
+impl Display for Outcome {
+    fn fmt<W: fmt::Write>(&self, f: &mut fmt::Formatter<W>) -> fmt::Result {
+        f.write_str(match self {
+            Outcome::Whole => "whole",
+            Outcome::Damaged => "damaged",
+            Outcome::Unwritten => "unwritten",
+            Outcome::Unread => "unread",
+        })
+    }
 }
 
 // How long the input is of which this many bytes were kept, where it can be read. The read that kept them cannot
@@ -122,7 +133,8 @@ fn digit_of(byte: u8) -> Option<usize>
     }
 }
 
-// The number of phys that a text means, in decimal digits alone, where it means one that a port may have.
+// The number of phys that a text means, in decimal digits alone, where it means one that a port may have. By hand:
+// `parse` takes a sign in front, and the definition takes digits alone.
 fn meant_by(text: &[u8]) -> Option<usize>
     ensures { result ≡ some_phys (meant_by most_phys text.now) }
 {
@@ -176,15 +188,6 @@ fn tell<T: Display + Drop>(rt: &(impl Env + Files), line: T) {
     }
 }
 
-fn tell_outcome(rt: &(impl Env + Files), outcome: Outcome) {
-    match outcome {
-        Outcome::Whole => tell(rt, "whole"),
-        Outcome::Damaged => tell(rt, "damaged"),
-        Outcome::Unwritten => tell(rt, "unwritten"),
-        Outcome::Unread => tell(rt, "unread"),
-    }
-}
-
 // Whoever asks for a shelf that no port has is told how many phys one may have.
 fn tell_most(rt: &(impl Env + Files)) {
     tell(rt, format_args!("phys {MOST_PHYS}"));
@@ -201,5 +204,5 @@ fn main(rt: HostRuntime) {
         None
     };
     let outcome = list_input(&rt, &mut rt.stdin(), phys);
-    tell_outcome(&rt, outcome);
+    tell(&rt, outcome);
 }
