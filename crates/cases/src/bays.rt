@@ -1,5 +1,4 @@
 // Steps of the crate `bay`.
-use crate::phys::open_numbers;
 use crate::walks::Machine;
 use bay::{Bay, Stepped};
 use casefile::{Input, event_of, phy_numbers, phy_of};
@@ -19,7 +18,7 @@ fn put_stepped(rt: &(impl Print + Eprint), kind: u64, r: Stepped, text: &mut Tex
         r.sent.tick,
     ];
     text.put_numbers(kind, &head);
-    text.put_more(&open_numbers(r.answered));
+    text.put_more(&<[u64; 6]>::from(r.answered));
     text.put_more(&phy_numbers(r.next.phy));
     text.put_more(&[r.next.base, r.next.baseSet]);
     text.end_line(rt);

@@ -1,5 +1,6 @@
 // Cases of the crate `number`: reading at a place of a byte string, writing into a buffer. Those of events in
-// `trace_cases` and `shelf_cases` take and print other numbers; what all do alike is in `casefile` and `replies`.
+// `trace_cases` and `shelf_cases` write and print a buffer alike, and differ in what they write: one function for all
+// would take that as a closure and ask that it can be called, and what `casefile` shares asks nothing.
 ghost use Rattle.casefile.specs.Promises.{EndsWithin};
 
 use casefile::Input;

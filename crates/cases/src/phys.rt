@@ -1,32 +1,14 @@
 // Items of the crate `phy`: each an event and how many times it comes.
-ghost use Rattle.std.specs.Prelude.{[], ◌∷◌, ◌≡◌};
-
 use crate::walks::Machine;
 use casefile::{Input, event_of, phy_numbers, phy_of};
-use event::Open;
 use output::Text;
 use phy::{Phy, Stepped};
-
-// The numbers of an Open. No `From` takes the place of this function: the trait, the record and the array are all
-// of other crates.
-pub(crate) fn open_numbers(o: Open) -> [u64; 6]
-    ensures { result ≡ (o.destination ∷ o.protocol ∷ o.rate ∷ o.tag ∷ o.blockedCount ∷ o.wait ∷ []) }
-{
-    [
-        o.destination,
-        o.protocol,
-        o.rate,
-        o.tag,
-        o.blockedCount,
-        o.wait,
-    ]
-}
 
 // refusal, answer, notice, sent, the answer's Open, phy; a bay's step has a tick with each report and a clock behind
 // the phy, so that its line in `bays` shares no more than the numbers of an Open and of a phy
 fn put_stepped(rt: &(impl Print + Eprint), kind: u64, r: Stepped, text: &mut Text) {
     text.put_numbers(kind, &[r.refusal, r.answer, r.notice, r.sent]);
-    text.put_more(&open_numbers(r.answered));
+    text.put_more(&<[u64; 6]>::from(r.answered));
     text.put_more(&phy_numbers(r.next));
     text.end_line(rt);
 }

@@ -3,7 +3,7 @@ use Rattle.std.specs.Prelude.{ℕ, List, [], ◌∷◌, ◌≡◌, Result, Ok, E
 use Rattle.table.specs.Choice.{Row, ◌⇒◌, rows}
 use Rattle.shelf_cases.specs.declared.Kind.{Kind}
 use Rattle.shelf_cases.specs.declared.Kind.TheVariants.{ReadEvent, WriteEvent, PortWalk, Runs}
-use Rattle.shelf_cases.specs.declared.UnknownKind.{UnknownKind}
+use Rattle.casefile.specs.declared.cases.UnknownKind.{UnknownKind}
 
 -- the number of each, among those of all case programs
 abbrev pub kind_rows : List (Row (Result Kind UnknownKind))

@@ -1,5 +1,5 @@
-// Cases of single shelf events: reading at a place of a byte string, writing into a buffer. They are no instances of
-// those of `trace_cases`, which take and print no number of a phy; what both do alike is in `casefile` and `replies`.
+// Cases of single shelf events: reading at a place of a byte string, writing into a buffer. Why they stand
+// beside those of `trace_cases` is said in `numbers` of `cases`.
 ghost use Rattle.casefile.specs.Promises.{EndsWithin};
 
 use casefile::{Input, event_of};

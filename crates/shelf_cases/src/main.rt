@@ -10,7 +10,7 @@ mod ports;
 mod runs;
 mod walks;
 
-use casefile::{BUFFER, Cases, Input, take_all};
+use casefile::{BUFFER, Cases, Input, UnknownKind, take_all};
 use output::Text;
 
 // What a case is of.
@@ -21,10 +21,6 @@ enum Kind {
     PortWalk,
     Runs,
 }
-
-// No case of this program has this number.
-#[derive(Clone, Copy)]
-struct UnknownKind;
 
 impl TryFrom<u64> for Kind {
     type Error = UnknownKind;
@@ -48,7 +44,7 @@ struct ShelfCases;
 impl Cases for ShelfCases {
     fn take_case(rt: &(impl Print + Eprint), kind: u64, input: &mut Input, text: &mut Text) {
         let Ok(known) = Kind::try_from(kind) else {
-            input.place = input.s.len();
+            input.end();
             return;
         };
         match known {

@@ -1,5 +1,5 @@
-// Cases of runs over shelf traces, each over the port that the one before left. They are no instances of those of
-// `trace_cases`, which run over a phy and print its state; what both do alike stands in `casefile`.
+// Cases of runs over shelf traces, each over the port that the one before left. Those of `trace_cases` run over
+// a phy: one function for both would take the run as a closure, and what `casefile` shares asks nothing of a caller.
 ghost use Rattle.casefile.specs.Promises.{EndsWithin};
 
 use crate::ports::{MOST_QUEUE, Port};

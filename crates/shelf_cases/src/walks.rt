@@ -11,8 +11,7 @@ use port::Stepped;
 // Open, what it sent
 fn put_stepped(rt: &(impl Print + Eprint), kind: u64, stepped: Stepped, text: &mut Text) {
     let reports = stepped.reports;
-    let open = reports.answered;
-    let line = [
+    let head = [
         reports.refusal,
         reports.answer.code,
         reports.answer.tick,
@@ -22,16 +21,11 @@ fn put_stepped(rt: &(impl Print + Eprint), kind: u64, stepped: Stepped, text: &m
         reports.secondNotice.tick,
         reports.sent.code,
         reports.sent.tick,
-        open.destination,
-        open.protocol,
-        open.rate,
-        open.tag,
-        open.blockedCount,
-        open.wait,
-        stepped.handed,
-        stepped.handedSent,
     ];
-    text.put_line(rt, kind, &line);
+    text.put_numbers(kind, &head);
+    text.put_more(&<[u64; 6]>::from(reports.answered));
+    text.put_more(&[stepped.handed, stepped.handedSent]);
+    text.end_line(rt);
 }
 
 // port, count, events: what each gives, and the port after the last

@@ -17,7 +17,7 @@ impl Cases for ShelfListingCases {
     // phys, pieces: the listing of the trace that they make
     fn take_case(rt: &(impl Print + Eprint), kind: u64, input: &mut Input, text: &mut Text) {
         if kind != LISTING {
-            input.place = input.s.len();
+            input.end();
             return;
         }
         let phys = input.take() as usize;

@@ -9,7 +9,7 @@ mod events;
 mod runs;
 mod traces;
 
-use casefile::{BUFFER, Cases, Input, list_case, take_all};
+use casefile::{BUFFER, Cases, Input, UnknownKind, list_case, take_all};
 use listing::OfPhy;
 use output::Text;
 
@@ -22,10 +22,6 @@ enum Kind {
     Runs,
     Listing,
 }
-
-// No case of this program has this number.
-#[derive(Clone, Copy)]
-struct UnknownKind;
 
 impl TryFrom<u64> for Kind {
     type Error = UnknownKind;
@@ -50,7 +46,7 @@ struct TraceCases;
 impl Cases for TraceCases {
     fn take_case(rt: &(impl Print + Eprint), kind: u64, input: &mut Input, text: &mut Text) {
         let Ok(known) = Kind::try_from(kind) else {
-            input.place = input.s.len();
+            input.end();
             return;
         };
         match known {
