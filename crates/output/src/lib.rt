@@ -157,7 +157,7 @@ impl<'a> Text<'a> {
 
 // Writes n bytes that are gathered in a buffer, as far as it holds them, once they are `least` or more, and gives how
 // many are gathered then. What is lost is told on standard error; whoever closed a pipe needs no telling. No contract
-// can say what a call writes, so no branch skips the write. `out` and `n` stay apart, since `WritesOut` speaks of any n.
+// can say what a call writes, so no branch skips the write. `out` and `n` stay apart: `WritesOut` speaks of any n.
 pub fn write_gathered(rt: &(impl Print + Eprint), out: &[u8], n: usize, least: usize) -> usize
     ensures { WritesOut n least result }
 {
