@@ -1,5 +1,5 @@
-// The records that a case file holds as numbers, in the order of their fields. No `From` takes the place of a
-// function here: the trait, the arrays and the records are all of other crates.
+// The records that a case file holds as numbers. Their order is the case file's, of which the machines' crates do not
+// know; so no `From` stands with the records.
 ghost use Rattle.casefile.specs.Promises.{MakesPhy, GivesNumbers, MakesEvent};
 
 use crate::{EVENT_NUMBERS, PHY_NUMBERS};

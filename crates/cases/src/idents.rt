@@ -10,7 +10,7 @@ use output::Text;
 // the record's.
 const FIELDS: usize = 7;
 
-// No `From` takes the place of this function: the trait, the array and the record are all of other crates.
+// No `From` stands with the record: the order is the case file's.
 fn identification(f: [u64; FIELDS]) -> Identification
     ensures { result ≡ record { receiver = get_or f 0 0; count = get_or f 1 0; typed = get_or f 2 0; got = get_or f 3 0; sent = get_or f 4 0; timer = get_or f 5 0; outcome = get_or f 6 0 } }
 {

@@ -69,6 +69,7 @@ impl Cases for MachineCases {
     }
 }
 
+// The buffer is `main`'s own, so that `take_all` takes any text.
 fn main(rt: HostRuntime) {
     let mut out = [0u8; BUFFER];
     let mut text = Text::new(&mut out);

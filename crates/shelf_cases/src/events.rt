@@ -13,7 +13,7 @@ const MOST_BUFFER: usize = 64;
 // The numbers of a line that says what was read.
 const READ_NUMBERS: usize = 11;
 
-// How reading ended; a line has the number.
+// How reading ended; a line has the number. `replies` has these numbers as constants, since its records hold them.
 #[derive(Clone, Copy)]
 enum How {
     Event = 0,

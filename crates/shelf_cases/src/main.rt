@@ -56,6 +56,7 @@ impl Cases for ShelfCases {
     }
 }
 
+// The buffer is `main`'s own, so that `take_all` takes any text.
 fn main(rt: HostRuntime) {
     let mut out = [0u8; BUFFER];
     let mut text = Text::new(&mut out);

@@ -26,7 +26,7 @@ pub(crate) struct Port<'a> {
     ghost few: { count ≤ most_held },
 }
 
-// phy, base, flag of the base
+// phy, base, flag of the base; `cases` reads a bay in the same few lines, as the state of a machine
 fn take_bay(input: &mut Input) -> Bay
     ensures { EndsWithin input.old input.new }
 {

@@ -116,7 +116,8 @@ impl<'a> Reader<'a> {
     }
 }
 
-// An event's code and its six arguments, also those that it lacks. No `From`: the record and the array are of others.
+// An event's code and its six arguments, also those that it lacks. A `From` would have to stand in `event`, and be this
+// list there, for this crate alone.
 fn all_numbers(e: Event) -> [u64; 7]
     ensures { result ≡ all_numbers e }
 {
