@@ -1,5 +1,5 @@
-// The records that a case file holds as numbers. Their order is the case file's, of which the machines' crates do not
-// know; so no `From` stands with the records.
+// The records that a case file holds as numbers, in the order of their fields. A `From` in `phy` or `event` would be
+// the same list there, for programs of cases alone.
 ghost use Rattle.casefile.specs.Promises.{MakesPhy, GivesNumbers, MakesEvent};
 
 use crate::{EVENT_NUMBERS, PHY_NUMBERS};

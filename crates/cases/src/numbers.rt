@@ -1,6 +1,6 @@
 // Cases of the crate `number`: reading at a place of a byte string, writing into a buffer. Those of events in
-// `trace_cases` and `shelf_cases` write and print a buffer alike, and differ in what they write: one function for all
-// would take that as a closure and ask that it can be called, and what `casefile` shares asks nothing.
+// `trace_cases` and `shelf_cases` write and print a buffer alike, and differ in what they write: a closure for that
+// would ask something of a caller, which nothing that `casefile` shares does, and a trait a type in each program.
 ghost use Rattle.casefile.specs.Promises.{EndsWithin};
 
 use casefile::Input;

@@ -13,7 +13,8 @@ const MOST_BUFFER: usize = 64;
 // The numbers of a line that says what was read.
 const READ_NUMBERS: usize = 11;
 
-// How reading ended; a line has the number. `replies` has these numbers as constants, since its records hold them.
+// How reading ended; a line has the number. `replies` has these numbers as constants: as an enum they
+// would be cast into each of its records.
 #[derive(Clone, Copy)]
 enum How {
     Event = 0,

@@ -26,7 +26,8 @@ pub(crate) struct Port<'a> {
     ghost few: { count ≤ most_held },
 }
 
-// phy, base, flag of the base; `cases` reads a bay in the same few lines, as the state of a machine
+// phy, base, flag of the base; `cases` reads a bay alike. One function would be a public one of `casefile`, with a
+// contract and an edit, for four lines; so it is with the lines that write a bay, here and in both other programs.
 fn take_bay(input: &mut Input) -> Bay
     ensures { EndsWithin input.old input.new }
 {

@@ -1,5 +1,5 @@
 // Cases of runs over shelf traces, each over the port that the one before left. Those of `trace_cases` run over
-// a phy: one function for both would take the run as a closure, and what `casefile` shares asks nothing of a caller.
+// a phy: a closure for the run would ask something of a caller, and a trait a type in each program.
 ghost use Rattle.casefile.specs.Promises.{EndsWithin};
 
 use crate::ports::{MOST_QUEUE, Port};
