@@ -1,9 +1,9 @@
 // Lines of text, gathered in a buffer: decimal numbers, one blank between two. What has no room is left out.
 #![tactic(auto)]
 
-ghost use Rattle.std.specs.Prelude.{ℕ, [], ◌∷◌};
+ghost use Rattle.std.specs.Prelude.{ℕ, [], ◌∷◌, ◌≡◌, MatchResult};
 ghost use Rattle.output.specs.Decimal.{decimal};
-ghost use Rattle.output.specs.Writing.{further};
+ghost use Rattle.output.specs.Writing.{further, lost};
 ghost use Rattle.output.specs.Promises.{Extends, StartsText, TellsValue, ShowsBytes, Puts, PutsAll, PutsMore, PutsNumbers};
 ghost use Rattle.output.specs.Promises.{WritesOut, GoesOut, TellsLost, EndsLine, PutsNumbersLine};
 
@@ -155,18 +155,25 @@ impl<'a> Text<'a> {
     }
 }
 
+// The place after a write. What is lost is told on standard error; whoever closed a pipe needs no telling.
+fn after_write(rt: &impl Eprint, written: std::io::Result<()>) -> usize
+    ensures { MatchResult written (λ _. result ≡ 0) (λ _. result ≡ lost) }
+{
+    match written {
+        Ok(()) => 0,
+        Err(error) if error.kind() == ErrorKind::BrokenPipe => LOST,
+        Err(error) => fail(rt, "not all was written to standard output", &error),
+    }
+}
+
 // Writes n bytes that are gathered in a buffer, as far as it holds them, once they are `least` or more, and gives how
-// many are gathered then. What is lost is told on standard error; whoever closed a pipe needs no telling. No contract
-// can say what a call writes, so no branch skips the write. `out` and `n` stay apart: `WritesOut` speaks of any n.
+// many are gathered then. No contract can say what a call writes, so no branch skips the write. `out` and `n` stay
+// apart: `WritesOut` speaks of any n.
 pub fn write_gathered(rt: &(impl Print + Eprint), out: &[u8], n: usize, least: usize) -> usize
     ensures { WritesOut n least result }
 {
     if (n < least) | (n == LOST) {
         return n;
     }
-    match rt.write_all(&out[..n.min(out.len())]) {
-        Ok(()) => 0,
-        Err(error) if error.kind() == ErrorKind::BrokenPipe => LOST,
-        Err(error) => fail(rt, "not all was written to standard output", &error),
-    }
+    after_write(rt, rt.write_all(&out[..n.min(out.len())]))
 }
