@@ -28,7 +28,7 @@ same_digits (suc j) (suc k) n h l =
     (λ small. one_digit (suc j) n small ∙ sym (one_digit (suc k) n small))
     (λ large. rw (le-ltb n 10 large) (ap (λ (ds : List ℕ). ds ++ (digit (n % 10) ∷ [])) (same_digits j k (n / 10) (omega arith) (omega arith))))
 
-decimal_small : (n : ℕ) → n < 10 → decimal n ≡ digit n ∷ []
+pub decimal_small : (n : ℕ) → n < 10 → decimal n ≡ digit n ∷ []
 unfolding decimal
 decimal_small n h = one_digit n n h
 
@@ -39,6 +39,10 @@ decimal_large zero h = absurd (omega arith)
 decimal_large (suc k) h =
     rw (le-ltb (suc k) 10 h)
     (ap (λ (ds : List ℕ). ds ++ (digit (suc k % 10) ∷ [])) (same_digits k (suc k / 10) (suc k / 10) (omega arith) (le_refl (suc k / 10))))
+
+-- two digits, where there are no more
+pub decimal_pair : (n : ℕ) → 10 ≤ n → n < 100 → decimal n ≡ digit (n / 10) ∷ digit (n % 10) ∷ []
+decimal_pair n large small = rw (decimal_large n large, decimal_small (n / 10) (omega arith)) refl
 
 -- what the library writes of a number of 64 bits
 pub decimal_written : (n : ℕ) → n < 2 ^ 64 → written n ≡ decimal n

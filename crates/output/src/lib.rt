@@ -1,9 +1,9 @@
 // Lines of text, gathered in a buffer: decimal numbers, one blank between two. What has no room is left out.
 #![tactic(auto)]
 
-ghost use Rattle.std.specs.Prelude.{ℕ, [], ◌∷◌, ◌≡◌, MatchResult};
+ghost use Rattle.std.specs.Prelude.{ℕ, [], ◌∷◌, ◌≡◌, ◌≤◌, ◌⊎◌, MatchResult};
 ghost use Rattle.output.specs.Decimal.{decimal};
-ghost use Rattle.output.specs.Writing.{further, lost};
+ghost use Rattle.output.specs.Writing.{further, lost, stays_gathered as stays};
 ghost use Rattle.output.specs.Promises.{Extends, StartsText, TellsValue, ShowsBytes, Puts, PutsAll, PutsMore, PutsNumbers};
 ghost use Rattle.output.specs.Promises.{WritesOut, GoesOut, TellsLost, EndsLine, PutsNumbersLine};
 
@@ -75,6 +75,21 @@ impl<'a> Text<'a> {
         }
     }
 
+    // Two bytes, one test for both where both have room.
+    fn put_both(&mut self, a: u8, b: u8)
+        ensures { Extends (Puts (a ∷ b ∷ [])) self.old self.new }
+    {
+        let n = self.n;
+        if n < self.out.len() && n + 1 < self.out.len() {
+            self.out[n] = a;
+            self.out[n + 1] = b;
+            self.n = n + 2;
+            return;
+        }
+        self.put(a);
+        self.put(b);
+    }
+
     // Bytes as they are, as many as have room.
     pub fn put_all(&mut self, bytes: &[u8])
         ensures { Extends (PutsAll bytes.now) self.old self.new }
@@ -85,19 +100,39 @@ impl<'a> Text<'a> {
         self.n += fits;
     }
 
-    // The digits of a number.
-    fn put_number(&mut self, value: u64)
+    // The digits of a number that has several; two are put without the library's buffer (docs/SPEED.md).
+    fn put_digits(&mut self, value: u64)
+        requires { 10 ≤ value }
         ensures { Extends (Puts (decimal value)) self.old self.new }
     {
+        if value < 100 {
+            self.put_both(b'0' + (value / 10) as u8, b'0' + (value % 10) as u8);
+            return;
+        }
         self.put_all(Buffer::new().format(value).as_bytes());
     }
 
-    // A further number of a line.
+    // The digits of a number. Most have one, and need no buffer either.
+    fn put_number(&mut self, value: u64)
+        ensures { Extends (Puts (decimal value)) self.old self.new }
+    {
+        if value < 10 {
+            self.put(b'0' + value as u8);
+            return;
+        }
+        self.put_digits(value);
+    }
+
+    // A further number of a line; of one digit, it is put with its blank.
     fn put_next(&mut self, value: u64)
         ensures { Extends (Puts (further value)) self.old self.new }
     {
+        if value < 10 {
+            self.put_both(b' ', b'0' + value as u8);
+            return;
+        }
         self.put(b' ');
-        self.put_number(value);
+        self.put_digits(value);
     }
 
     // Each as a further number of a line.
@@ -125,17 +160,21 @@ impl<'a> Text<'a> {
     }
 
     // The place after writing out: where a text that may change lends its buffer a proof knows nothing of the bytes.
-    fn place_written(&self, rt: &(impl Print + Eprint), least: usize) -> usize
-        ensures { WritesOut self.now.n least result }
+    fn place_written(&self, rt: &(impl Print + Eprint)) -> usize
+        ensures { (result ≡ 0) ⊎ (result ≡ lost) }
     {
-        write_gathered(rt, self.out, self.n, least)
+        write_now(rt, self.out, self.n)
     }
 
-    // What is gathered goes out once it is `least` or more.
+    // What is gathered goes out once it is `least` or more. What stays is left in a branch of its own, which then needs
+    // nothing of what a write needs.
     pub fn write_out(&mut self, rt: &(impl Print + Eprint), least: usize)
         ensures { Extends (GoesOut least) self.old self.new }
     {
-        self.n = self.place_written(rt, least);
+        if stays_gathered(self.n, least) {
+            return;
+        }
+        self.n = self.place_written(rt);
     }
 
     // The end of a line, after which a full buffer is written.
@@ -166,14 +205,28 @@ fn after_write(rt: &impl Eprint, written: std::io::Result<()>) -> usize
     }
 }
 
+// Whether so many bytes stay gathered, where `least` of them are written.
+fn stays_gathered(n: usize, least: usize) -> bool
+    ensures { result ≡ stays n least }
+{
+    (n < least) | (n == LOST)
+}
+
+// Writes n bytes of a buffer, as far as it holds them.
+fn write_now(rt: &(impl Print + Eprint), out: &[u8], n: usize) -> usize
+    ensures { (result ≡ 0) ⊎ (result ≡ lost) }
+{
+    after_write(rt, rt.write_all(&out[..n.min(out.len())]))
+}
+
 // Writes n bytes that are gathered in a buffer, as far as it holds them, once they are `least` or more, and gives how
-// many are gathered then. No contract can say what a call writes, so no branch skips the write. `out` and `n` stay
-// apart: `WritesOut` speaks of any n.
+// many are gathered then. No contract can say what a call writes, so no other branch skips the write. `out` and `n`
+// stay apart: `WritesOut` speaks of any n.
 pub fn write_gathered(rt: &(impl Print + Eprint), out: &[u8], n: usize, least: usize) -> usize
     ensures { WritesOut n least result }
 {
-    if (n < least) | (n == LOST) {
+    if stays_gathered(n, least) {
         return n;
     }
-    after_write(rt, rt.write_all(&out[..n.min(out.len())]))
+    write_now(rt, out, n)
 }

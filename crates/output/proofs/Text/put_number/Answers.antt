@@ -1,10 +1,11 @@
--- `output::Text::put_number` meets its contract: the digits that the library writes are the number's.
-use Rattle.output.proofs.Decimal.{decimal_written}
+-- `output::Text::put_number` meets its contract: a number below ten is its only digit.
+use Rattle.std.proofs.Common.{arith}
+use Rattle.output.proofs.Decimal.{decimal_small}
 use Rattle.output.proofs.Text.put_number.Goals as goal
 
-pub returns : goal.returns
-returns c =
+pub returns-then-value-lt10 : goal.returns-then-value-lt10
+returns-then-value-lt10 c =
     record {
-      puts = rw (c.as_bytes.ensures.value, c.format.ensures.text, decimal_written c.args.value c.ranges.value.fits) at c.put_all.ensures.puts.puts;
-      same_buffer = c.put_all.ensures.same_buffer;
+      puts = rw (decimal_small c.args.value (omega (arith, c.if-value-lt10.true))) c.put.ensures.puts;
+      same_buffer = c.put.ensures.same_buffer;
     }
