@@ -4,7 +4,10 @@
 
 ghost use Rattle.std.specs.Prelude.{◌≡◌, ◌-◌, Some, None};
 ghost use Rattle.table.specs.Choice.{pick};
+ghost use Rattle.bay.specs.State.{fresh_bay};
+ghost use Rattle.listing.specs.Listing.{of_phy};
 ghost use Rattle.port.specs.Names.{most_phys};
+ghost use Rattle.shelf_listing.specs.Held.{fresh_shelf, of_shelf};
 ghost use Rattle.lister.specs.Says.{first_digit, is_digit, meant_by, some_phys, Measures, ending_of, ListsTo};
 
 use lines::{Listing, Written};
@@ -123,6 +126,20 @@ fn list<L: Listing>(
     }
 }
 
+// Lists the trace of a fresh phy.
+fn list_phy(rt: &(impl Print + Eprint), trace: &[u8], total: usize) -> Outcome
+    ensures { ListsTo of_phy fresh_bay trace.now total result }
+{
+    list::<OfPhy>(rt, bay::fresh(), trace, total)
+}
+
+// The same of a shelf of fresh phys.
+fn list_shelf(rt: &(impl Print + Eprint), trace: &[u8], total: usize, phys: usize) -> Outcome
+    ensures { ListsTo of_shelf (fresh_shelf phys) trace.now total result }
+{
+    list::<OfShelf>(rt, shelf_listing::fresh(phys), trace, total)
+}
+
 // The digit that a byte is.
 fn digit_of(byte: u8) -> Option<usize>
     ensures { result ≡ pick (is_digit byte) (Some (byte - first_digit)) None }
@@ -156,8 +173,8 @@ fn list_input(rt: &(impl Print + Eprint), input: &mut impl Read, phys: Option<us
         return Outcome::Unread;
     };
     match phys {
-        Some(phys) => list::<OfShelf>(rt, shelf_listing::fresh(phys), &trace[..kept], total),
-        None => list::<OfPhy>(rt, bay::fresh(), &trace[..kept], total),
+        Some(phys) => list_shelf(rt, &trace[..kept], total, phys),
+        None => list_phy(rt, &trace[..kept], total),
     }
 }
 
