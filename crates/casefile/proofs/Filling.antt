@@ -1,5 +1,5 @@
 -- The invariants of filling a buffer with pieces: what is left to do, started from here, makes the whole, and as long as all had room the lengths add up.
-use Prim.Native.Nat.{ℕ, suc, ◌+◌, ◌-◌, ◌≤◌, ◌<◌, max}
+use Prim.Native.Nat.{ℕ, zero, suc, ◌+◌, ◌-◌, ◌≤◌, ◌<◌, max}
 use mathlib.Core.Bool.{Bool, true, false, ◌&&◌}
 use mathlib.Core.List.{List, [], ◌∷◌, ◌++◌}
 use mathlib.Core.Path.{◌≡◌, refl, sym, ap, ◌∙◌}
@@ -7,7 +7,6 @@ use native.Mathlib.Omega.{arith}
 use borrow.Author.Tests.{le-leb, lt-leb, leb-true, leb-false}
 use lib.Dec.{leb}
 use lib.ListN.{length, length-append}
-use lib.Seq.{sets, set_out}
 use Rattle.table.specs.Choice.{pick}
 use Rattle.output.specs.Writing.{reached}
 use Rattle.output.specs.Promises.{Puts}
@@ -30,6 +29,23 @@ pub record Filling (piece : List ℕ) (times : ℕ) (before : List ℕ) (n left 
 
 pub filling_start : (piece : List ℕ) (times : ℕ) (before : List ℕ) (n : ℕ) → Filling piece times before n times before n
 filling_start piece times before n = record { rest = putting_start _ _ _; sum = refl; low = omega arith; high = omega arith }
+
+-- an empty piece is nothing, however often
+repeated_none : (piece : List ℕ) → length piece ≡ 0 → (times : ℕ) → repeated times piece ≡ []
+unfolding repeated
+repeated_none [] h zero = refl
+repeated_none [] h (suc times) = repeated_none [] h times
+repeated_none (b ∷ bytes) h times = absurd (omega (arith, h))
+
+pub filling_none : (piece : List ℕ) → length piece ≡ 0 → (times : ℕ) (before : List ℕ) (n : ℕ) → PutsPiece piece times true before n n before
+filling_none piece h times before n =
+    let nothing = repeated_none piece h times in
+    let no_length : length (repeated times piece) ≡ 0 = rw nothing refl in
+    record {
+      puts = rw nothing (puts_none before n);
+      whole_says = sym (le-leb (length (repeated times piece)) (length before - n) (omega (arith, no_length)));
+      within = omega arith;
+    }
 
 module _ {piece before buffer : List ℕ} {times n left end : ℕ} (f : Filling piece times before n left buffer end) where
   one_more : 0 < left → repeated left piece ≡ piece ++ repeated (left - 1) piece

@@ -1,7 +1,12 @@
 -- `casefile::pieces::put_piece` meets its contract: each turn writes one piece of those that are left, and stops at the first that has no room.
-use Rattle.std.proofs.Common.{refl, ◌∙◌, ◌-◌, arith}
-use Rattle.casefile.proofs.Filling.{filling_start, filling_on, filling_cut, filling_done}
+use Rattle.std.proofs.Common.{refl, sym, ◌∙◌, ◌-◌, arith}
+use borrow.Author.Tests.{eqb-true}
+use Rattle.casefile.proofs.Filling.{filling_none, filling_start, filling_on, filling_cut, filling_done}
 use Rattle.casefile.proofs.pieces.put_piece.Goals as goal
+
+pub returns-then-is_empty : goal.returns-then-is_empty
+returns-then-is_empty c =
+    record { puts = filling_none _ (eqb-true _ 0 (sym c.is_empty.ensures ∙ c.if-is_empty.true)) _ _ _; same_buffer = refl }
 
 pub loop-init : goal.loop-init
 loop-init c = record { left = c.args.times; here = omega arith; filling = filling_start _ _ _ _; same_buffer = refl }
