@@ -1,3 +1,4 @@
 pub mod Ranges
+pub mod Others
 pub mod InTrace
 pub mod Determined
