@@ -1,5 +1,5 @@
 // Ports of a case: the count of bays, the bays, the length of the queue, its numbers.
-ghost use Rattle.std.specs.Prelude.{◌≤◌, length};
+ghost use Rattle.std.specs.Prelude.{◌≤◌, ◌≡◌, length};
 ghost use Rattle.casefile.specs.Promises.{EndsWithin};
 ghost use Rattle.held.specs.Rows.{most_held, front};
 ghost use Rattle.held.specs.Promises.{StepsRow};
@@ -63,16 +63,18 @@ impl<'a> Port<'a> {
 
     // An event comes to the port.
     pub(crate) fn step(&mut self, e: ShelfEvent) -> Stepped
-        ensures { StepsRow self.old.row.bays self.old.count self.old.queue.now e.number e.event result
+        ensures steps { StepsRow self.old.row.bays self.old.count self.old.queue.now e.number e.event result
             self.new.row.bays self.new.queue.now }
+        ensures same_count { self.new.count ≡ self.old.count }
     {
         self.row.step(self.count, self.queue, e.number, e.event)
     }
 
     // A run over the port. A copy is lent, since a proof knows nothing of an array in a field of which a part was lent.
     pub(crate) fn run(&mut self, trace: &[u8], budget: usize, buffer: &mut [u8]) -> Ran
-        ensures { Runs (front self.old.count self.old.row.bays) self.old.queue.now trace.now budget buffer.old result
+        ensures runs { Runs (front self.old.count self.old.row.bays) self.old.queue.now trace.now budget buffer.old result
             (front self.old.count self.new.row.bays) self.new.queue.now buffer.new }
+        ensures same_count { self.new.count ≡ self.old.count }
     {
         let mut bays = self.row.bays;
         let ran = shelf_run::run(&mut bays[..self.count], self.queue, trace, budget, buffer);
