@@ -32,7 +32,7 @@
 #include <stdint.h>
 
 /* The version of this header and of the archives that are built beside it. */
-#define LOURAVELA_VERSION "4.8.0"
+#define LOURAVELA_VERSION "4.8.1"
 
 #ifdef __cplusplus
 extern "C" {
